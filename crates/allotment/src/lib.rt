@@ -1,0 +1,3 @@
+// Allot and challenge on any roll.
+pub mod found;
+pub mod calls;

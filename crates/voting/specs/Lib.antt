@@ -1,0 +1,5 @@
+pub mod Totals
+pub mod Placements
+pub mod Votes
+pub mod Local
+pub mod Weights
