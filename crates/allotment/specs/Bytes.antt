@@ -5,9 +5,7 @@ use mathlib.Core.List.{List, map, _++_}
 use lib.Dec.{eqb}
 use lib.ListN.{getD, drop}
 use Rattle.std.specs.Iters.{counting}
-use Rattle.std.specs.declared.option.Option.{Option}
 use Rattle.std.specs.declared.option.Option.the-variants.{Some, None}
-use Rattle.rules.specs.declared.words.Practice.{Practice}
 use Rattle.voting.specs.Placements.{Seat, Placement}
 
 abbrev pub seat-of-byte : ℕ → Seat
@@ -28,11 +26,3 @@ bytes-of n M = map (λ t. byte-of-seat (M t)) (counting 0 n)
 -- the buffer with the first n seats in its first bytes, and its later bytes as they were
 abbrev pub written : ℕ → Placement → List ℕ → List ℕ
 written n M buffer = bytes-of n M ++ drop n buffer
-
--- the seat that a stored seat is, and the placement that stored seats are
-abbrev pub stored : Option Practice → Seat
-stored None = None
-stored (Some p) = Some (p .0)
-
-abbrev pub seating : List (Option Practice) → Placement
-seating seats t = stored (getD seats t None)

@@ -14,10 +14,10 @@ use Rattle.rules.specs.declared.words.Reason.the-variants.{WrongLength, NoneUnb
 use Rattle.rules.specs.Words.{of-round}
 use Rattle.rules.specs.Meaning.{Entries, trainees, places-of, list-of}
 use Rattle.rules.specs.Questions.{listed}
-use Rattle.voting.specs.Placements.{Seat, Placement, seated, seated-at}
+use Rattle.voting.specs.Placements.{Seat, Placement, seating, seated, seated-at}
 use Rattle.voting.specs.Votes.{Fullest, Each-beaten, Strongest}
 use Rattle.allotment.specs.declared.found.Found.{Found}
-use Rattle.allotment.specs.Bytes.{offered-by, written, seating}
+use Rattle.allotment.specs.Bytes.{offered-by, written}
 
 -- as many slots of both kinds as trainees
 abbrev pub enough : Entries → ℕ → ℕ → Bool

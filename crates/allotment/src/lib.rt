@@ -1,3 +1,2 @@
 // Allot and challenge on any roll.
 pub mod found;
-pub mod calls;

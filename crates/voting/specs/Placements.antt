@@ -4,8 +4,10 @@ use mathlib.Core.Bool.{Bool, true, false}
 use mathlib.Core.List.{List}
 use mathlib.Core.Path.{_≡_}
 use lib.Dec.{eqb}
+use lib.ListN.{getD}
 use Rattle.std.specs.declared.option.Option.{Option}
 use Rattle.std.specs.declared.option.Option.the-variants.{Some, None}
+use Rattle.rules.specs.declared.words.Practice.{Practice}
 use Rattle.rules.specs.Meaning.{Entries, trainees, places-of, list-of}
 use Rattle.rules.specs.Questions.{listed}
 use Rattle.voting.specs.Totals.{many}
@@ -17,6 +19,14 @@ Seat = Option ℕ
 -- a seat for each trainee, by number
 abbrev pub Placement : Type 0
 Placement = ℕ → Seat
+
+-- the seat that a stored seat is, and the placement that stored seats are
+abbrev pub stored : Option Practice → Seat
+stored None = None
+stored (Some p) = Some (p .0)
+
+abbrev pub seating : List (Option Practice) → Placement
+seating seats t = stored (getD seats t None)
 
 -- no seat, or a practice of the list
 abbrev pub Allowed : List ℕ → Seat → Type 0
