@@ -1,0 +1,19 @@
+use mathlib.Core.Path.{_≡_, _∙_, ap}
+use mathlib.Core.List.{_++_}
+use Rattle.std.specs.Written.{decimal}
+use Rattle.texts.specs.Text.{text, kept}
+use Rattle.texts.proofs.Spelling.{refusal-put}
+use Rattle.texts.proofs.text.Text.put_refusal.Needs as need
+
+pub returns : need.returns
+returns c =
+    refusal-put (text (c .args .self .now))
+    (text (c .put .last .self)) (text (c .put-number .last .self)) (text (c .push .last .self)) (text (c .put-2 .last .self))
+    (c .args .refusal) (text (c .push-2 .last .self)) (text (c .put-number-2 .last .self)) (text (c .push-3 .last .self))
+    (c .put .ensures)
+    (c .put-number .ensures ∙ ap (λ n. kept (text (c .put .last .self) ++ decimal n)) (c .number .ensures))
+    (c .push .ensures)
+    (c .put-2 .ensures ∙ ap (λ w. kept (text (c .push .last .self) ++ w)) (c .as-bytes .ensures .value ∙ c .word .ensures))
+    (c .push-2 .ensures)
+    (c .put-number-2 .ensures)
+    (c .push-3 .ensures)
