@@ -1,0 +1,5 @@
+pub mod Positions
+pub mod Numbers
+pub mod Checking
+pub mod Outcomes
+pub mod Lawfully

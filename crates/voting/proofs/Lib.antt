@@ -1,0 +1,13 @@
+pub mod Totals
+pub mod Ranks
+pub mod Majorities
+pub mod Certificate
+pub mod Ballots
+pub mod Sufficiency
+pub mod Moves
+pub mod Necessity
+pub mod Alike
+pub mod Rows
+pub mod Search
+pub mod Local
+pub mod Worked

@@ -3,3 +3,5 @@ pub mod Placements
 pub mod Votes
 pub mod Local
 pub mod Weights
+pub mod Ballots
+pub mod Worked

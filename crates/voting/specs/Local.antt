@@ -9,7 +9,7 @@ use lib.ListN.{length}
 use Rattle.std.specs.declared.option.Option.the-variants.{Some, None}
 use Rattle.rules.specs.Meaning.{Entries, Lawful, trainees, places-of, list-of}
 use Rattle.voting.specs.Placements.{Seat, Placement, Feasible, sits, seated-at}
-use Rattle.voting.specs.Votes.{Unbeaten}
+use Rattle.voting.specs.Votes.{Beats, Unbeaten}
 
 -- the head of the list
 abbrev pub first-choice : List ℕ → Seat
@@ -38,6 +38,8 @@ pub record Well-formed (e : Entries) (M : Placement) : Type 0 where
   pub filled : (p : ℕ) → places-of e p < first-count e p → seated-at (trainees e) M p ≡ places-of e p
   pub only : (p t : ℕ) → t < trainees e → places-of e p < first-count e p → M t ≡ Some p → first-choice (list-of e t) ≡ Some p
 
--- a feasible placement is unbeaten exactly when it is well-formed
+-- a feasible placement is unbeaten exactly when it is well-formed; it is well-formed, or a feasible placement that beats it can be named
 abbrev pub Local-description : Type 0
-Local-description = (e : Entries) → Lawful e → (M : Placement) → Feasible e M → (Unbeaten e M → Well-formed e M) × (Well-formed e M → Unbeaten e M)
+Local-description =
+    (e : Entries) → Lawful e → (M : Placement) → Feasible e M →
+    (Unbeaten e M → Well-formed e M) × (Well-formed e M → Unbeaten e M) × (Well-formed e M ⊎ ((N : Placement) × Feasible e N × Beats e N M))

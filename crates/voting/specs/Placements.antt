@@ -28,6 +28,10 @@ stored (Some p) = Some (p .0)
 abbrev pub seating : List (Option Practice) → Placement
 seating seats t = stored (getD seats t None)
 
+-- the placement that a row of seats is: no seat past its end
+abbrev pub seats-of : List Seat → Placement
+seats-of row t = getD row t None
+
 -- no seat, or a practice of the list
 abbrev pub Allowed : List ℕ → Seat → Type 0
 Allowed list None = Unit {0}
