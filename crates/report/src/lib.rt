@@ -1,5 +1,5 @@
 // Reports of a sheet, as text in a caller's buffer.
-mod seats;
+pub mod challenge;
 mod hand_over;
 pub mod report;
-pub mod challenge;
+mod seats;

@@ -3,6 +3,11 @@ use Prim.Native.Nat.{ℕ, _^_, _/_, _%_, _+_, _<_, _≤_}
 use mathlib.Core.Path.{_≡_, _∙_, sym, ap}
 use mathlib.Core.List.{List, [], _∷_, _++_}
 use lib.Chars.{codes}
+use lib.ListN.{length}
+use native.Mathlib.Omega.{arith}
+use Rattle.std.proofs.shelf.Lists.{length-append, length-push}
+use Rattle.rules.specs.declared.words.Layer.{Layer}
+use Rattle.rules.specs.declared.words.Layer.the-variants.{Sheet, Register, Round}
 use Rattle.std.specs.Written.{decimal}
 use Rattle.std.proofs.shelf.Decimals.{decimal-digit, decimal-step}
 use Rattle.rules.specs.declared.words.Refusal.{Refusal}
@@ -45,3 +50,27 @@ digit-put n s t l h e = h ∙ ap (λ k. kept (s ++ (48 + k) ∷ [])) e ∙ ap (�
 
 pub digits-put : (n : ℕ) (s a t : List ℕ) → 10 ≤ n → n < 2 ^ 64 → a ≡ kept (s ++ decimal (n / 10)) → t ≡ kept (a ++ (48 + n % 10) ∷ []) → t ≡ kept (s ++ decimal n)
 digits-put n s a t m l h k = then s (decimal (n / 10)) ((48 + n % 10) ∷ []) a t h k ∙ ap (λ d. kept (s ++ d)) (sym (decimal-step n m l))
+
+word-short : (layer : Layer) → length (word-of layer) ≤ 8
+word-short Sheet = omega arith
+word-short Register = omega arith
+word-short Round = omega arith
+
+pub refusal-short : (r : Refusal) → length (decimal (number-of (r .reason))) ≤ 20 → length (decimal (r .place)) ≤ 20 → length (line (refusal-words r)) ≤ 64
+refusal-short r h k =
+    let w2 = codes "refused " ++ decimal (number-of (r .reason)) in
+    let w3 = w2 ++ codes " " in
+    let w4 = w3 ++ word-of (r .layer) in
+    let w5 = w4 ++ codes " " in
+    omega (
+      arith,
+      h,
+      k,
+      word-short (r .layer),
+      length-append (codes "refused ") (decimal (number-of (r .reason))),
+      length-append w2 (codes " "),
+      length-append w3 (word-of (r .layer)),
+      length-append w4 (codes " "),
+      length-append w5 (decimal (r .place)),
+      length-push (w5 ++ decimal (r .place)) 10,
+    )

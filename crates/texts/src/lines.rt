@@ -1,6 +1,8 @@
 // The lines that people read.
 ghost use mathlib.Core.Path.{_≡_};
 ghost use mathlib.Core.List.{_++_};
+ghost use Prim.Native.Nat.{_≤_};
+ghost use lib.ListN.{length};
 ghost use lib.Chars.{codes};
 ghost use Rattle.std.specs.Written.{decimal};
 ghost use Rattle.voting.specs.Placements.{stored};
@@ -13,7 +15,8 @@ use rules::words::Refusal;
 impl Text {
     // refused N LAYER PLACE
     pub fn put_refusal(&mut self, refusal: Refusal)
-        ensures { λ _. ⌜ text (now (self .exit)) ≡ kept (text (now (self .entry)) ++ line (refusal-words refusal)) ⌝ }
+        ensures after { λ _. ⌜ text (now (self .exit)) ≡ kept (text (now (self .entry)) ++ line (refusal-words refusal)) ⌝ }
+        ensures short { λ _. ⌜ length (line (refusal-words refusal)) ≤ 64 ⌝ }
     {
         self.put(b"refused ");
         self.put_number(refusal.reason.number() as usize);

@@ -1,6 +1,7 @@
 // What is put into a text goes behind what it holds.
 ghost use mathlib.Core.Path.{_≡_};
 ghost use mathlib.Core.List.{[], _∷_, _++_};
+ghost use Prim.Native.Nat.{_≤_};
 ghost use lib.ListN.{length};
 ghost use Rattle.std.specs.Written.{decimal};
 ghost use Rattle.texts.specs.Text.{text, kept};
@@ -35,7 +36,8 @@ impl Text {
 
     // The number in decimal.
     pub fn put_number(&mut self, n: usize)
-        ensures { λ _. ⌜ text (now (self .exit)) ≡ kept (text (now (self .entry)) ++ decimal n) ⌝ }
+        ensures after { λ _. ⌜ text (now (self .exit)) ≡ kept (text (now (self .entry)) ++ decimal n) ⌝ }
+        ensures short { λ _. ⌜ length (decimal n) ≤ 20 ⌝ }
     {
         if n >= 10 {
             self.put_number(n / 10);

@@ -8,4 +8,4 @@ returns c =
     seat-put (text (c .args .self .now))
     (text (c .put-number .last .self)) (text (c .push .last .self)) (text (c .put-seat .last .self)) (text (c .push-2 .last .self))
     (c .args .t) (stored (c .args .seat))
-    (c .put-number .ensures) (c .push .ensures) (c .put-seat .ensures) (c .push-2 .ensures)
+    (c .put-number .ensures .after) (c .push .ensures) (c .put-seat .ensures) (c .push-2 .ensures)
