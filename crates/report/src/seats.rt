@@ -7,7 +7,7 @@ ghost use Prim.Native.Nat.{_≤_};
 ghost use Rattle.std.specs.Written.{decimal};
 ghost use Rattle.voting.specs.Placements.{stored};
 ghost use Rattle.allotment.specs.Bytes.{seat-of-byte, offered-by};
-ghost use Rattle.texts.specs.Text.{text, kept};
+ghost use Rattle.texts.specs.Text.{text as text-of, kept};
 ghost use Rattle.texts.specs.Lines.{line, seat-lines};
 use rules::words::Practice;
 use texts::text::Text;
@@ -25,9 +25,33 @@ fn seat_of_byte(byte: u8) -> Option<Practice>
 
 pub(crate) fn put_seats(text: &mut Text, seats: &[u8])
     requires { ⌜ length (now seats) ≤ 400 ⌝ }
-    ensures { λ _. ⌜ text (now (text .exit)) ≡ kept (text (now (text .entry)) ++ seat-lines (length (now (seats .entry))) (offered-by (now (seats .entry)))) ⌝ }
+    ensures { λ _. ⌜ text-of (now (text .exit)) ≡ kept (text-of (now (text .entry)) ++ seat-lines (length (now (seats .entry))) (offered-by (now (seats .entry)))) ⌝ }
 {
     for t in 0..seats.len() {
         text.put_seat_line(t as u16, seat_of_byte(seats[t]));
     }
+}
+
+// placed K of N, and a line for each trainee
+pub(crate) fn put_placement(text: &mut Text, seated: u16, seats: &[u8])
+    requires { ⌜ length (now seats) ≤ 400 ⌝ }
+    ensures { λ _. ⌜ text-of (now (text .exit)) ≡ kept (text-of (now (text .entry)) ++ (line (codes "placed " ++ decimal seated ++ codes " of " ++ decimal (length (now (seats .entry)))) ++ seat-lines (length (now (seats .entry))) (offered-by (now (seats .entry))))) ⌝ }
+{
+    text.put(b"placed ");
+    text.put_number(seated as usize);
+    text.put(b" of ");
+    text.put_number(seats.len());
+    text.push(b'\n');
+    put_seats(text, seats);
+}
+
+// majority K, and a line for each trainee
+pub(crate) fn put_rival(text: &mut Text, majority: u16, seats: &[u8])
+    requires { ⌜ length (now seats) ≤ 400 ⌝ }
+    ensures { λ _. ⌜ text-of (now (text .exit)) ≡ kept (text-of (now (text .entry)) ++ (line (codes "majority " ++ decimal majority) ++ seat-lines (length (now (seats .entry))) (offered-by (now (seats .entry))))) ⌝ }
+{
+    text.put(b"majority ");
+    text.put_number(majority as usize);
+    text.push(b'\n');
+    put_seats(text, seats);
 }
