@@ -52,16 +52,20 @@ position-first (x ∷ xs) p (suc k) l e =
     (λ (q : x ≡ p → ⊥). rw (position-later x xs p q) (omega (arith, position-first xs p k (omega arith) e)))
     (cases-eq x p)
 
+-- the first place where the practice stands
+pub position-is : (xs : List ℕ) (p k : ℕ) → k < length xs → getD xs k 0 ≡ p → ((j : ℕ) → j < k → getD xs j 0 ≡ p → ⊥) → position xs p ≡ k
+position-is xs p k l e n = by (cases-lt (position xs p) k)
+  where
+    first : position xs p ≤ k
+    first = position-first xs p k l e
+
+    by : (position xs p < k) ⊎ (k ≤ position xs p) → position xs p ≡ k
+    by (inl m) = absurd (n (position xs p) m (at-position xs p (omega arith)))
+    by (inr m) = omega (arith, first)
+
 -- a choice of a list without repeats stands at its own position
 pub position-own : (xs : List ℕ) → Distinct xs → (k : ℕ) → k < length xs → position xs (getD xs k 0) ≡ k
-position-own xs d k l = by (cases-lt (position xs (getD xs k 0)) k)
-  where
-    first : position xs (getD xs k 0) ≤ k
-    first = position-first xs (getD xs k 0) k l refl
-
-    by : (position xs (getD xs k 0) < k) ⊎ (k ≤ position xs (getD xs k 0)) → position xs (getD xs k 0) ≡ k
-    by (inl m) = absurd (d (position xs (getD xs k 0)) k m l (at-position xs (getD xs k 0) (omega arith)))
-    by (inr m) = omega (arith, first)
+position-own xs d k l = position-is xs (getD xs k 0) k l refl (λ j m e. d j k m l e)
 
 pub listed-own : (xs : List ℕ) (k : ℕ) → k < length xs → listed xs (getD xs k 0) ≡ true
 listed-own xs k l = lt-ltb (position xs (getD xs k 0)) (length xs) (omega (arith, position-first xs (getD xs k 0) k l refl))

@@ -4,7 +4,7 @@ ghost use Rattle.std.specs.declared.result.Result.the-variants.{Ok};
 ghost use Rattle.rules.specs.Meaning.{Entries};
 ghost use Rattle.sheet.specs.Filing.{Filing};
 ghost use Rattle.sheet.specs.Reading.{reading};
-ghost use Rattle.sheet.specs.Statement.{Sheet-of};
+ghost use Rattle.sheet.specs.Statement.{Sheet-of, Reads-the-sheets};
 ghost use Rattle.sheet.specs.Told.{accepted};
 ghost use Rattle.sheet.specs.Opened.{counts-read};
 use crate::counts::Counts;
@@ -33,6 +33,7 @@ pub(crate) fn read_counts(bytes: &[u8]) -> Result<Counts, Refusal>
 // Accepts the sheets of lawful entries and fitting filings, and nothing else.
 pub fn check(bytes: &[u8]) -> Result<(), Refusal>
     ensures reads { λ r. ⌜ r ≡ accepted (reading (now (bytes .entry))) ⌝ }
+    ensures sheets { λ _. ⌜ Reads-the-sheets (now (bytes .entry)) ⌝ }
     ensures only { λ r. ⌜ (r ≡ Ok tt → (e : Entries) × (f : Filing) × Sheet-of e f (now (bytes .entry))) ⌝ }
     ensures every { λ r. ⌜ ((e : Entries) (f : Filing) → Sheet-of e f (now (bytes .entry)) → r ≡ Ok tt) ⌝ }
 {

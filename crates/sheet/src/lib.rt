@@ -1,8 +1,9 @@
 // The sheet: checking bytes, and opening them as a roll with a filing.
 pub mod check;
-pub mod counts;
+mod counts;
 mod numbers;
 pub mod open_sheet;
 pub mod opening;
+pub mod refusal;
 mod sections;
-mod wrong;
+pub mod wrong;

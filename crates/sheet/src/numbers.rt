@@ -1,12 +1,11 @@
 // Numbers at the front of some bytes.
 ghost use mathlib.Core.Path.{_≡_};
-ghost use Rattle.rules.specs.Words.{of-sheet};
 ghost use Rattle.rules.specs.Refusals.{off-places};
 ghost use Rattle.sheet.specs.Reading.{refused, judged, one, two, above, off-choice, off-count, off-filed, finished};
 ghost use Rattle.sheet.specs.Told.{told, fine, left, rest-told};
+use crate::refusal::of_sheet;
 use crate::wrong;
 use rules::entry::off_places;
-use rules::words::Layer;
 use rules::words::Reason;
 use rules::words::Refusal;
 
@@ -14,11 +13,7 @@ use rules::words::Refusal;
 fn refused(size: usize, reason: Reason, left: &[u8]) -> Refusal
     ensures { λ r. ⌜ r ≡ refused size reason (now (left .entry)) ⌝ }
 {
-    Refusal {
-        reason,
-        layer: Layer::Sheet,
-        place: size.saturating_sub(left.len()),
-    }
+    of_sheet(reason, size.saturating_sub(left.len()))
 }
 
 fn judge(size: usize, wrong: Option<Reason>, left: &[u8]) -> Result<(), Refusal>
@@ -30,23 +25,13 @@ fn judge(size: usize, wrong: Option<Reason>, left: &[u8]) -> Result<(), Refusal>
     }
 }
 
-fn ended(size: usize) -> Refusal
-    ensures { λ r. ⌜ r ≡ of-sheet Reason.SheetEnds size ⌝ }
-{
-    Refusal {
-        reason: Reason::SheetEnds,
-        layer: Layer::Sheet,
-        place: size,
-    }
-}
-
 // A number of one byte, and the bytes behind it.
 fn one(size: usize, s: &[u8]) -> Result<(u8, &[u8]), Refusal>
     ensures { λ r. ⌜ told r ≡ one size fine (now (s .entry)) ⌝ }
 {
     match s {
         [n, rest @ ..] => Ok((*n, rest)),
-        _ => Err(ended(size)),
+        _ => Err(of_sheet(Reason::SheetEnds, size)),
     }
 }
 
@@ -56,7 +41,7 @@ fn two(size: usize, s: &[u8]) -> Result<(u16, &[u8]), Refusal>
 {
     match s {
         [hi, lo, rest @ ..] => Ok((256 * *hi as u16 + *lo as u16, rest)),
-        _ => Err(ended(size)),
+        _ => Err(of_sheet(Reason::SheetEnds, size)),
     }
 }
 

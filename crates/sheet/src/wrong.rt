@@ -49,7 +49,8 @@ pub(crate) fn off_count(trainees: u16, n: u16) -> Option<Reason>
     }
 }
 
-pub(crate) fn off_filed(practices: u16, p: u8) -> Option<Reason>
+// A filed byte is a practice or 255.
+pub fn off_filed(practices: u16, p: u8) -> Option<Reason>
     ensures { λ r. ⌜ r ≡ off-filed practices p ⌝ }
 {
     if p == 255 || (p as u16) < practices {

@@ -1,0 +1,15 @@
+pub mod Tables
+pub mod Lists
+pub mod Counts
+pub mod Walks
+pub mod Gaps
+pub mod Rises
+pub mod Settles
+pub mod Starts
+pub mod Finish
+pub mod Queues
+pub mod Bounds
+pub mod Growth
+pub mod Notes
+pub mod Searches
+pub mod Slots

@@ -1,0 +1,9 @@
+pub mod Rows
+pub mod Tables
+pub mod States
+pub mod Moves
+pub mod Searches
+pub mod Walks
+pub mod Raises
+pub mod Steps
+pub mod Placing

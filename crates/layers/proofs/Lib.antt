@@ -1,0 +1,4 @@
+pub mod Answered
+pub mod Cut
+pub mod Filtered
+pub mod Entered

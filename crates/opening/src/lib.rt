@@ -1,0 +1,2 @@
+// How a register over lent memory is opened.
+pub mod room;

@@ -1,0 +1,4 @@
+pub mod Ranks
+pub mod Reading
+pub mod Kept
+pub mod Grid

@@ -1,0 +1,4 @@
+pub mod Rows
+pub mod Reading
+pub mod Kept
+pub mod Table

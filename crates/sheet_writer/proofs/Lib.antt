@@ -1,0 +1,5 @@
+pub mod Parts
+pub mod Whole
+pub mod Rolls
+pub mod Refused
+pub mod Trips
