@@ -1,5 +1,4 @@
 pub mod Positions
-pub mod Answered
 pub mod Numbers
 pub mod Checking
 pub mod Outcomes
