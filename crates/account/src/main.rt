@@ -1,18 +1,97 @@
 // Reads a script of calls from standard input, one to a line, and prints the account.
+mod calls;
 mod lines;
+mod pile;
 mod plan;
+mod print;
 mod words;
 
+use crate::calls::room_of;
+use crate::calls::script_of;
+use crate::pile::Closing;
+use crate::pile::run_pile;
+use crate::plan::Item;
+use crate::plan::Plan;
 use crate::plan::read_script;
+use crate::print::put_answer;
+use crate::print::put_item;
+use rank_grid::grid::RankGrid;
+use round::script::Answer;
+use rules::words::Refusal;
+use std::alloc::AllocError;
 use std::error::AnyError;
 use std::io::Read;
+use texts::text::Text;
+
+// As many trainees as the round will have.
+fn trainees_of(plan: &Plan, opened: Closing) -> usize {
+    match opened {
+        Ok(()) => plan.trainees as usize,
+        Err(_) => 0,
+    }
+}
+
+// The bytes that all placements of the script want.
+fn rooms(plan: &Plan, trainees: usize) -> usize {
+    let mut all = 0usize;
+    for call in plan.calls.as_slice() {
+        all = all.saturating_add(room_of(*call, trainees));
+    }
+    all
+}
+
+/// What the script answered.
+#[derive(Drop)]
+struct Run {
+    opened: Closing,
+    closings: Vec<Closing>,
+    answers: Vec<Answer>,
+    placements: Vec<u8>,
+    trainees: usize,
+}
+
+fn make(rt: &LibcRuntime, plan: &Plan) -> Result<Run, AllocError> {
+    let heap = rt.alloc();
+    let needed = plan.practices as usize * plan.trainees as usize;
+    let mut cells = vec![in heap; 0u8; needed]?;
+    let opened = RankGrid::check(plan.practices, plan.trainees, needed);
+    let trainees = trainees_of(plan, opened);
+    let mut closings = vec![in heap; Ok(()); plan.closed.len()]?;
+    let mut answers = vec![in heap; Answer::Entered(Ok(())); plan.calls.len()]?;
+    let mut placements = vec![in heap; 255u8; rooms(plan, trainees)]?;
+    let script = script_of(heap, &plan.kept, plan.calls.as_slice(), trainees)?;
+    let _ = run_pile(plan, cells.as_mut_slice(), closings.as_mut_slice(), script.as_slice(), answers.as_mut_slice(), placements.as_mut_slice());
+    Ok(Run { opened, closings, answers, placements, trainees })
+}
+
+// Prints what the lines of the script came to, in their order.
+fn print(rt: &LibcRuntime, plan: &Plan, run: &Run) -> Result<(), AnyError> {
+    let mut used = 0usize;
+    for item in plan.items.as_slice() {
+        let mut text = Text::new();
+        if let Item::Called(at) = *item {
+            if let (Some(call), Some(answer)) = (plan.calls.get(at), run.answers.get(at)) {
+                let end = used.saturating_add(room_of(*call, run.trainees));
+                if let Some(seats) = run.placements.as_slice().get(used..end) {
+                    put_answer(&mut text, *answer, seats);
+                }
+                used = end;
+            }
+        } else {
+            put_item(&mut text, *item, run.opened, run.closings.as_slice());
+        }
+        rt.write_all(text.as_bytes())?;
+    }
+    Ok(())
+}
 
 fn run(rt: &LibcRuntime) -> Result<(), AnyError> {
     let heap = rt.alloc();
     let mut script = Vec::new(heap);
     rt.stdin().read_to_end(&mut script)?;
-    let _plan = read_script(heap, script.as_slice())?;
-    Ok(())
+    let plan = read_script(heap, script.as_slice())?;
+    let run = make(rt, &plan)?;
+    print(rt, &plan, &run)
 }
 
 fn main(rt: LibcRuntime) -> Result<(), AnyError> {

@@ -1,0 +1,11 @@
+pub mod Answering
+pub mod Copying
+pub mod Deciding
+pub mod Fallbacks
+pub mod Fitting
+pub mod Fullest
+pub mod Listed
+pub mod Sums
+pub mod Tabling
+pub mod Weighing
+pub mod Writing

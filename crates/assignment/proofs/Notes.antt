@@ -34,9 +34,9 @@ each-push P xs x old last j k =
 
 -- the move y is noted: a tight seat at a full practice that is new, for one who was reached
 module _
-  (T : Table) (S : State) (R R′ : Progress) (y : Move) (h : Noted S R R′ y) (r : Ready T S) (x : Explored T S R) (l : y .taken .0 < T .m)
-  (new : marked (R .reached) (y .taken .0) ≡ false) (b : Tight T S (y .trainee .0) (Some (y .taken .0))) (f : count S (y .taken .0) ≡ capacity T (y .taken .0))
-  (e : y .trainee .0 ≤ S .newcomer) (o : stored (y .left) ≡ seat-of S (y .trainee .0)) (a : Reached S (R .reached) (y .trainee .0)) where
+    (T : Table) (S : State) (R R′ : Progress) (y : Move) (h : Noted S R R′ y) (r : Ready T S) (x : Explored T S R) (l : y .taken .0 < T .m)
+    (new : marked (R .reached) (y .taken .0) ≡ false) (b : Tight T S (y .trainee .0) (Some (y .taken .0))) (f : count S (y .taken .0) ≡ capacity T (y .taken .0))
+    (e : y .trainee .0 ≤ S .newcomer) (o : stored (y .left) ≡ seat-of S (y .trainee .0)) (a : Reached S (R .reached) (y .trainee .0)) where
   still : (q : ℕ) → marked (R .reached) q ≡ true → marked (R′ .reached) q ≡ true
   still q s =
       ⊎-elim (λ (k : q ≡ y .taken .0). subst (λ u. marked (R′ .reached) u ≡ true) (sym k) (h .mark))
@@ -116,9 +116,11 @@ module _
   waiting t w =
       ⊎-elim
       (λ (v : Waits (R .queue) t).
-      let u = x .waiting t v in
-      (u .0, ⊎-elim (λ (i : t ≡ S .newcomer). inl i)
-      (λ (i : (q : ℕ) × (seat-of S t ≡ Some q) × (marked (R .reached) q ≡ true)). inr (i .0, i .1, still (i .0) (i .2))) (u .1)))
+      let u = x .waiting t v in (
+        u .0,
+        ⊎-elim (λ (i : t ≡ S .newcomer). inl i)
+            (λ (i : (q : ℕ) × (seat-of S t ≡ Some q) × (marked (R .reached) q ≡ true)). inr (i .0, i .1, still (i .0) (i .2))) (u .1),
+      ))
       (λ (v : (t < S .newcomer) × (seat-of S t ≡ Some (y .taken .0))). (omega (arith, v .0), inr (y .taken .0, v .1, h .mark)))
       (h .queue .only t w)
 

@@ -97,11 +97,7 @@ fn place_all(table: &Table, waiting: &mut [Trainee], moves: &mut [Move]) -> Plac
 }
 
 /// A placement of greatest weight; refused with fewer slots of either kind than trainees.
-pub fn place(
-    table: &Table,
-    waiting: &mut [Trainee],
-    moves: &mut [Move],
-) -> Result<Placed, Refusal>
+pub fn place(table: &Table, waiting: &mut [Trainee], moves: &mut [Move]) -> Result<Placed, Refusal>
     ensures answer { λ r. ⌜ Answer (now (table .entry)) (enough (now (table .entry)) (length (now (waiting .entry))) (length (now (moves .entry)))) r ⌝ }
     ensures slots { λ _. ⌜ (enough (now (table .entry)) (length (now (waiting .entry))) (length (now (moves .entry))) ≡ false → (now (waiting .exit) ≡ now (waiting .entry)) × (now (moves .exit) ≡ now (moves .entry))) ⌝ }
 {

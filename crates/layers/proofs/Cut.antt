@@ -1,16 +1,14 @@
 -- What is asked of a list that is cut.
-use mathlib.Core.Path.{_≡_, _∙_, sym, refl, ap}
+use mathlib.Core.Path.{_≡_, _∙_, sym, ap}
 use mathlib.Core.List.{List, [], _∷_}
-use mathlib.Core.Bool.{true, false}
 use mathlib.Core.Logic.{_⊎_, inl, inr, ⊎-elim}
 use Prim.Native.Nat.{ℕ, zero, suc, min, _<_, _≤_}
 use native.Mathlib.Omega.{arith}
 use lib.ListN.{length, take, length-take}
 use lib.Seq.{getD-take}
 use Rattle.std.proofs.shelf.Tests.{lt-ltb, le-ltb, ltb-true, ltb-false, cases-lt, cases-eq}
-use Rattle.std.specs.declared.option.Option.{Option}
 use Rattle.std.specs.declared.option.Option.the-variants.{Some, None}
-use Rattle.rules.specs.Questions.{choice-in, position-in, position, listed}
+use Rattle.rules.specs.Questions.{choice-in, position-in, position}
 use Rattle.rules.proofs.Positions.{position-here, position-later}
 use Rattle.layers.proofs.Answered.{choice-at, choice-past, position-some, position-none}
 
@@ -35,18 +33,18 @@ position-take (suc n) (x ∷ xs) p =
     (cases-eq x p)
 
 module _ (n : ℕ) (list : List ℕ) (p : ℕ) where
-  shut-out : (length list ≤ position list p) ⊎ (n ≤ position list p) → None ≡ position-in (take n list) p
-  shut-out h = sym (rw (le-ltb (position (take n list) p) (length (take n list)) (by h)))
+  not-shown : (length list ≤ position list p) ⊎ (n ≤ position list p) → None ≡ position-in (take n list) p
+  not-shown h = sym (rw (le-ltb (position (take n list) p) (length (take n list)) (by h)))
     where
       by : (length list ≤ position list p) ⊎ (n ≤ position list p) → length (take n list) ≤ position (take n list) p
       by (inl l) = omega (arith, position-take n list p, length-take n list)
       by (inr l) = omega (arith, position-take n list p, length-take n list)
 
   pub position-unlisted : None ≡ position-in list p → None ≡ position-in (take n list) p
-  position-unlisted h = shut-out (inl (ltb-false (position list p) (length list) (position-none list p h)))
+  position-unlisted h = not-shown (inl (ltb-false (position list p) (length list) (position-none list p h)))
 
   pub position-cut : (k : ℕ) → Some k ≡ position-in list p → n ≤ k → None ≡ position-in (take n list) p
-  position-cut k h l = let a = position-some list p k h in shut-out (inr (omega (arith, a .1)))
+  position-cut k h l = let a = position-some list p k h in not-shown (inr (omega (arith, a .1)))
 
   pub position-within : (k : ℕ) → Some k ≡ position-in list p → k < n → Some k ≡ position-in (take n list) p
   position-within k h l =

@@ -1,24 +1,23 @@
 -- What a layer takes, the register below takes, and then the layer shows it.
 use mathlib.Core.Path.{_≡_, _∙_, sym, refl, ap}
-use mathlib.Core.List.{List, [], _∷_, map}
+use mathlib.Core.List.{List, [], _∷_}
 use mathlib.Core.Bool.{Bool, true, false, not, cond}
-use Prim.Native.Nat.{ℕ, zero, suc, min, _<_, _≤_}
+use Prim.Native.Nat.{ℕ, zero, suc, _<_, _≤_}
 use native.Mathlib.Omega.{arith}
-use lib.ListN.{length, take, set, getD, replicate, length-map}
+use lib.ListN.{length, take, getD, length-map}
 use lib.Dec.{ltb}
 use Rattle.std.specs.shelf.Lists.{kept-by}
-use Rattle.std.proofs.shelf.Lists.{take-all, map-set, map-id}
+use Rattle.std.proofs.shelf.Lists.{take-all, map-set}
 use Rattle.std.proofs.shelf.Tests.{false≢true}
-use Rattle.std.specs.declared.option.Option.{Option}
-use Rattle.std.specs.declared.option.Option.the-variants.{Some, None}
+use Rattle.std.specs.declared.option.Option.the-variants.{None}
 use Rattle.std.specs.declared.result.Result.{Result}
-use Rattle.std.specs.declared.result.Result.the-variants.{Ok, Err}
+use Rattle.std.specs.declared.result.Result.the-variants.{Ok}
 use Rattle.rules.specs.declared.words.Refusal.{Refusal}
-use Rattle.rules.specs.Meaning.{Meaning, Rules, Entries, trainees, practices, is-open, with-list}
-use Rattle.rules.specs.Refusals.{entry-refusal, enter-outcome, outcome}
+use Rattle.rules.specs.Meaning.{Meaning, Rules, trainees, practices, is-open, with-list}
+use Rattle.rules.specs.Refusals.{entry-refusal, enter-outcome}
 use Rattle.rules.proofs.Checking.{admitted, by-choices, choices-wider, none-open}
 use Rattle.rules.proofs.Outcomes.{outcome-none}
-use Rattle.layers.specs.Shown.{with-lists, shortened-meaning, unclosed, still-open, without-meaning}
+use Rattle.layers.specs.Shown.{with-lists, shortened-rules, shortened-meaning, unclosed, still-open, without-rules, without-meaning}
 use Rattle.layers.proofs.Filtered.{kept-whole}
 
 -- a layer that changes each list, and the rules
@@ -46,9 +45,8 @@ module _ (f : List ℕ → List ℕ) (g : Rules → Rules) where
 pub enter-short : (most : ℕ) (m : Meaning) (t : ℕ) (list : List ℕ) (r : Result (Unit {0}) Refusal) (after : Meaning) → entry-refusal (shortened-meaning most m) t list ≡ None → enter-outcome m t list ≡ (r, after) → enter-outcome (shortened-meaning most m) t list ≡ (r, shortened-meaning most after)
 enter-short most m t list r after above h =
     let a = admitted (shortened-meaning most m) t list above in
-    let rules : Rules → Rules = λ r. record { longest = min most (r .longest); opened = r .opened } in
-    entered-above (take most) rules m t list r after (take-all most list (omega (arith, a .long))) above
-    (entered-below (take most) rules m t list (omega arith) (λ p o. o) above)
+    entered-above (take most) (shortened-rules most) m t list r after (take-all most list (omega (arith, a .long))) above
+    (entered-below (take most) (shortened-rules most) m t list (omega arith) (λ p o. o) above)
     h
 
 getD-still-open : (closed opened : List Bool) (p : ℕ) → getD (still-open closed opened) p false ≡ cond (getD closed p false) false (getD opened p false)
@@ -82,29 +80,7 @@ module _ (closed : List Bool) (m : Meaning) (p : ℕ) where
 pub enter-closed : (closed : List Bool) (m : Meaning) (t : ℕ) (list : List ℕ) (r : Result (Unit {0}) Refusal) (after : Meaning) → entry-refusal (without-meaning closed m) t list ≡ None → enter-outcome m t list ≡ (r, after) → enter-outcome (without-meaning closed m) t list ≡ (r, without-meaning closed after)
 enter-closed closed m t list r after above h =
     let a = admitted (without-meaning closed m) t list above in
-    let rules : Rules → Rules = λ r. record { longest = r .longest; opened = still-open closed (r .opened) } in
     let passes : (k : ℕ) → k < length list → unclosed closed (getD list k 0) ≡ true = λ k l. open-parts closed m (getD list k 0) (none-open (without-meaning closed m) [] list (a .choices) k l) .1 in
-    entered-above (kept-by (unclosed closed)) rules m t list r after (kept-whole (unclosed closed) list passes) above
-    (entered-below (kept-by (unclosed closed)) rules m t list (omega arith) (λ p o. open-parts closed m p o .0) above)
+    entered-above (kept-by (unclosed closed)) (without-rules closed) m t list r after (kept-whole (unclosed closed) list passes) above
+    (entered-below (kept-by (unclosed closed)) (without-rules closed) m t list (omega arith) (λ p o. open-parts closed m p o .0) above)
     h
-
--- with nothing closed
-getD-none : (n p : ℕ) → getD (replicate n false) p false ≡ false
-getD-none zero p = refl
-getD-none (suc n) zero = refl
-getD-none (suc n) (suc p) = getD-none n p
-
-still-none : (n : ℕ) (opened : List Bool) → still-open (replicate n false) opened ≡ opened
-still-none n [] = refl
-still-none zero (o ∷ os) = refl
-still-none (suc n) (o ∷ os) = ap (λ l. o ∷ l) (still-none n os)
-
-map-same : (f : List ℕ → List ℕ) → ((l : List ℕ) → f l ≡ l) → (xs : List (List ℕ)) → map f xs ≡ xs
-map-same f same [] = refl
-map-same f same (x ∷ xs) = rw (same x) (ap (λ l. x ∷ l) (map-same f same xs))
-
-pub without-none : (n : ℕ) (m : Meaning) → without-meaning (replicate n false) m ≡ m
-without-none n m =
-    let lists : map (kept-by (unclosed (replicate n false))) (m .entries .lists) ≡ m .entries .lists = map-same (kept-by (unclosed (replicate n false))) (λ l. kept-whole (unclosed (replicate n false)) l (λ k h. ap not (getD-none n (getD l k 0)))) (m .entries .lists) in
-    ap (λ ls. record { entries = record { places = m .entries .places; lists = ls }; rules = record { longest = m .rules .longest; opened = still-open (replicate n false) (m .rules .opened) } }) lists
-    ∙ ap (λ os. record { entries = m .entries; rules = record { longest = m .rules .longest; opened = os } }) (still-none n (m .rules .opened))

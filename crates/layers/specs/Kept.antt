@@ -1,8 +1,7 @@
 -- What a layer shows is lawful where what it stands on is, and its lists are no longer.
-use mathlib.Core.Path.{_≡_, _∙_, sym, refl, ap}
+use mathlib.Core.Path.{_≡_, sym, refl}
 use mathlib.Core.List.{List, [], _∷_, map}
 use mathlib.Core.Bool.{Bool, true, false, not, cond}
-use mathlib.Core.Logic.{_⊎_, inl, inr}
 use Prim.Native.Nat.{ℕ, zero, suc, min, _<_, _≤_}
 use native.Mathlib.Omega.{arith}
 use lib.ListN.{length, getD, take, length-map, length-take}
@@ -12,7 +11,7 @@ use Rattle.std.proofs.shelf.Elements.{all-kept-by, all-getD, all-from-getD}
 use Rattle.std.proofs.shelf.Filters.{length-kept-by-both}
 use Rattle.rules.specs.Meaning.{Entries, Rules, Strict, Lawful, list-of}
 use Rattle.rules.proofs.Positions.{Distinct}
-use Rattle.layers.specs.Shown.{with-lists, shortened, shortened-rules, unclosed, without, without-rules}
+use Rattle.layers.specs.Shown.{with-lists, shortened, shortened-rules, unclosed, without}
 
 getD-lists : (f : List ℕ → List ℕ) → f [] ≡ [] → (xs : List (List ℕ)) (t : ℕ) → getD (map f xs) t [] ≡ f (getD xs t [])
 getD-lists f e [] t = sym e

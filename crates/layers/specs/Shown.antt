@@ -21,9 +21,11 @@ shortened-rules most r = record { longest = min most (r .longest); opened = r .o
 abbrev pub shortened-meaning : ℕ → Meaning → Meaning
 shortened-meaning most m = record { entries = shortened most (m .entries); rules = shortened-rules most (m .rules) }
 
--- the practice is not closed
+abbrev pub is-closed : List Bool → ℕ → Bool
+is-closed closed p = getD closed p false
+
 abbrev pub unclosed : List Bool → ℕ → Bool
-unclosed closed p = not (getD closed p false)
+unclosed closed p = not (is-closed closed p)
 
 -- each list without the practices that are closed
 abbrev pub without : List Bool → Entries → Entries

@@ -4,8 +4,8 @@ ghost use mathlib.Core.Bool.{false};
 ghost use lib.ListN.{length, take, replicate};
 ghost use Rattle.std.specs.shelf.Lists.{kept-by};
 ghost use Rattle.rules.specs.Meaning.{meant, list-of};
-ghost use Rattle.layers.specs.Closing.{close-outcome};
-ghost use Rattle.layers.specs.Shown.{unclosed, without, without-rules, without-meaning};
+ghost use Rattle.layers.specs.Closing.{marks-outcome, close-outcome};
+ghost use Rattle.layers.specs.Shown.{is-closed, unclosed, without, without-rules, without-meaning};
 ghost use Rattle.layers.specs.Kept.{lawful-without};
 use rules::entry::answer;
 use rules::entry::entry_refusal;
@@ -37,10 +37,11 @@ impl<R: Register> Closed<R> {
     }
 }
 
-impl<R: Roll> Closed<R> {
+impl<R: Terms> Closed<R> {
     // A practice that is closed already may be closed again.
     pub fn close(&mut self, p: Practice) -> Result<(), Refusal>
-        ensures closes { λ r. ⌜ close-outcome (R·Roll .entries (now (self .entry) .below)) (now (self .entry) .closed) (p .0) ≡ (r, now (self .exit) .closed) ⌝ }
+        ensures shows { λ r. ⌜ close-outcome (without-meaning (now (self .entry) .closed) (meant (R·Roll .entries) (R·Terms .rules) (now (self .entry) .below))) (p .0) ≡ (r, without-meaning (now (self .exit) .closed) (meant (R·Roll .entries) (R·Terms .rules) (now (self .exit) .below))) ⌝ }
+        ensures marks { λ r. ⌜ marks-outcome (R·Roll .entries (now (self .entry) .below)) (now (self .entry) .closed) (p .0) ≡ (r, now (self .exit) .closed) ⌝ }
         ensures keeps { λ _. ⌜ now (self .exit) .below ≡ now (self .entry) .below ⌝ }
     {
         if p.0 >= self.below.practices() {
@@ -49,24 +50,26 @@ impl<R: Roll> Closed<R> {
         self.closed[p.0 as usize] = true;
         Ok(())
     }
+}
 
-    fn is_unclosed(&self, p: Practice) -> bool
-        ensures { λ r. ⌜ r ≡ unclosed (now (self .entry) .closed) (p .0) ⌝ }
+impl<R: Roll> Closed<R> {
+    fn is_closed(&self, p: Practice) -> bool
+        ensures { λ r. ⌜ r ≡ is-closed (now (self .entry) .closed) (p .0) ⌝ }
     {
         match self.closed.get(p.0 as usize) {
-            Some(closed) => !*closed,
-            None => true,
+            Some(closed) => *closed,
+            None => false,
         }
     }
 
-    // How many of the first n choices are not closed.
-    fn unclosed_among(&self, t: Trainee, n: u8) -> u8
+    // How many of the first n choices below are shown.
+    fn shown_among(&self, t: Trainee, n: u8) -> u8
         ensures { λ r. ⌜ r ≡ length (kept-by (unclosed (now (self .entry) .closed)) (take n (list-of (R·Roll .entries (now (self .entry) .below)) (t .0)))) ⌝ }
     {
         let mut count = 0;
         for k in 0..n {
             if let Some(p) = self.below.choice(t, k) {
-                if self.is_unclosed(p) {
+                if !self.is_closed(p) {
                     count += 1;
                 }
             }
@@ -93,14 +96,14 @@ pub impl<R: Roll> Roll for Closed<R> as ClosedRoll {
     }
 
     fn list_length(&self, t: Trainee) -> u8 {
-        self.unclosed_among(t, self.below.list_length(t))
+        self.shown_among(t, self.below.list_length(t))
     }
 
     fn choice(&self, t: Trainee, k: u8) -> Option<Practice> {
         let mut left = k;
         for j in 0..self.below.list_length(t) {
             if let Some(p) = self.below.choice(t, j) {
-                if self.is_unclosed(p) {
+                if !self.is_closed(p) {
                     if left == 0 {
                         return Some(p);
                     }
@@ -113,11 +116,10 @@ pub impl<R: Roll> Roll for Closed<R> as ClosedRoll {
 
     fn position(&self, t: Trainee, p: Practice) -> Option<u8> {
         let k = self.below.position(t, p)?;
-        if self.is_unclosed(p) {
-            Some(self.unclosed_among(t, k))
-        } else {
-            None
+        if self.is_closed(p) {
+            return None;
         }
+        Some(self.shown_among(t, k))
     }
 }
 
@@ -131,7 +133,7 @@ pub impl<R: Terms> Terms for Closed<R> as ClosedTerms {
     }
 
     fn is_open(&self, p: Practice) -> bool {
-        self.below.is_open(p) && self.is_unclosed(p)
+        self.below.is_open(p) && !self.is_closed(p)
     }
 }
 

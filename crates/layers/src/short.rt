@@ -25,10 +25,9 @@ impl<R: Register> Short<R> {
         ensures made { λ s. ⌜ (s .below ≡ below) × (s .most ≡ min most 12) ⌝ }
         ensures shows { λ s. ⌜ shortened-meaning (s .most) (meant (R·Roll .entries) (R·Terms .rules) (s .below)) ≡ shortened-meaning (min most 12) (meant (R·Roll .entries) (R·Terms .rules) below) ⌝ }
     {
-        if most < 12 {
-            Short { below, most }
-        } else {
-            Short { below, most: 12 }
+        Short {
+            below,
+            most: most.min(12),
         }
     }
 }
@@ -51,20 +50,14 @@ pub impl<R: Roll> Roll for Short<R> as ShortRoll {
     }
 
     fn list_length(&self, t: Trainee) -> u8 {
-        let length = self.below.list_length(t);
-        if length < self.most {
-            length
-        } else {
-            self.most
-        }
+        self.below.list_length(t).min(self.most)
     }
 
     fn choice(&self, t: Trainee, k: u8) -> Option<Practice> {
-        if k < self.most {
-            self.below.choice(t, k)
-        } else {
-            None
+        if k >= self.most {
+            return None;
         }
+        self.below.choice(t, k)
     }
 
     fn position(&self, t: Trainee, p: Practice) -> Option<u8> {
@@ -79,12 +72,7 @@ pub impl<R: Terms> Terms for Short<R> as ShortTerms {
     ghost bounded = { λ s. bounded-shortened (s .most) (R·Terms .rules (s .below)) (R·Terms .bounded (s .below)) };
 
     fn longest(&self) -> u8 {
-        let longest = self.below.longest();
-        if longest < self.most {
-            longest
-        } else {
-            self.most
-        }
+        self.below.longest().min(self.most)
     }
 
     fn is_open(&self, p: Practice) -> bool {

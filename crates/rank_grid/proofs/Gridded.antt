@@ -152,6 +152,19 @@ shown-held cells (suc T) P (x ∷ xs) n room h =
     ∙ ap (λ b. ranks P x ++ b) (rest ∙ ap (λ d. joined (ranks P) xs ++ d) (drop-drop (T * P) P cells ∙ ap (λ j. drop j cells) (sym m)))
     ∙ sym (append-assoc (ranks P x) (joined (ranks P) xs) (drop (suc T * P) cells))
 
+length-runs : (P : ℕ) (lists : List (List ℕ)) → length (joined (ranks P) lists) ≡ length lists * P
+length-runs P [] = omega arith
+length-runs P (x ∷ xs) = omega (arith, length-append (ranks P x) (joined (ranks P) xs), length-map-counting (rank x) 0 P, length-runs P xs, suc-mul (length xs) P)
+
+-- memory that held as many entries before is beyond them as it was at first
+pub holding-again : (e f : Entries) (memory : List ℕ) → trainees f ≡ trainees e → practices f ≡ practices e → holding f (holding e memory) ≡ holding f memory
+holding-again e f memory t p =
+    let n : trainees f * practices f ≡ trainees e * practices e = rw (t, p) in
+    ap (λ d. joined (ranks (practices f)) (f .lists) ++ d)
+    (ap (λ k. drop k (holding e memory)) n
+    ∙ drop-at (joined (ranks (practices e)) (e .lists)) (drop (trainees e * practices e) memory) (trainees e * practices e) (length-runs (practices e) (e .lists))
+    ∙ ap (λ k. drop k memory) (sym n))
+
 -- cells that stand hold their entries, and beyond them what other memory has there
 module _ (cells memory : List ℕ) (T P : ℕ) (places : List ℕ) (full : length places ≡ 100) (small : P ≤ 100) (room : T * P ≤ length cells) (r : Ranked cells T P places) where
   pub held : drop (T * P) cells ≡ drop (T * P) memory → cells ≡ holding (entries-of cells T P places) memory

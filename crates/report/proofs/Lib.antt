@@ -1,1 +1,3 @@
+pub mod Challenging
+pub mod Judging
 pub mod Lined

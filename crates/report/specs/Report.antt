@@ -13,11 +13,9 @@ use Rattle.rules.specs.declared.words.Reason.the-variants.{WrongLength, NoneUnb
 use Rattle.rules.specs.Words.{of-round}
 use Rattle.rules.specs.Meaning.{Entries, trainees}
 use Rattle.voting.specs.Placements.{Placement}
+use Rattle.sheet.specs.Filing.{Filing}
 use Rattle.allotment.specs.Calls.{Verdict, Rival, challenge-refusal}
 use Rattle.texts.specs.Lines.{line, refusal-words, placement-lines, rival-lines}
-
-abbrev Filing : Type 0
-Filing = List ℕ
 
 -- what the bytes of a sheet read as: entries and a filing, or a refusal
 abbrev pub Read : Type 0

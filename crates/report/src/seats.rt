@@ -48,7 +48,8 @@ pub(crate) fn put_placement(text: &mut Text, seated: u16, seats: &[u8])
 // majority K, and a line for each trainee
 pub(crate) fn put_rival(text: &mut Text, majority: u16, seats: &[u8])
     requires { ⌜ length (now seats) ≤ 400 ⌝ }
-    ensures { λ _. ⌜ text-of (now (text .exit)) ≡ kept (text-of (now (text .entry)) ++ (line (codes "majority " ++ decimal majority) ++ seat-lines (length (now (seats .entry))) (offered-by (now (seats .entry))))) ⌝ }
+    ensures short { λ _. ⌜ length (decimal majority) ≤ 20 ⌝ }
+    ensures after { λ _. ⌜ text-of (now (text .exit)) ≡ kept (text-of (now (text .entry)) ++ (line (codes "majority " ++ decimal majority) ++ seat-lines (length (now (seats .entry))) (offered-by (now (seats .entry))))) ⌝ }
 {
     text.put(b"majority ");
     text.put_number(majority as usize);

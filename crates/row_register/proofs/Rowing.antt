@@ -12,7 +12,7 @@ use Rattle.std.proofs.shelf.Lists.{ext-getD, getD-map, getD-past, getD-take, ge
 use Rattle.std.proofs.shelf.Tests.{lt-ltb, le-ltb, cases-eq, cases-lt}
 use Rattle.std.specs.declared.option.Option.the-variants.{Some, None}
 use Rattle.rules.specs.declared.words.Practice.{Practice}
-use Rattle.rules.specs.Meaning.{Entries, Strict, Lawful, with-list, with-places}
+use Rattle.rules.specs.Meaning.{Entries, Strict, Lawful, trainees, with-list, with-places}
 use Rattle.rules.specs.Questions.{listed, position, choice-in, position-in}
 use Rattle.rules.proofs.Positions.{position-is, unlisted}
 use Rattle.rules.proofs.Lawfully.{lawful-listed, lawful-placed}
@@ -105,6 +105,14 @@ pub row-made : (xs choices : List ℕ) (n i : ℕ) → n ≡ length xs → i ≡
 row-made xs choices n i a b e =
     let c : choices ≡ xs ++ replicate (12 - length xs) 0 = e ∙ rw (b, take-all (length xs) xs (le-refl (length xs))) in
     λ j. record { count = a j; choices = c j }
+
+-- memory that held as many entries before is beyond them as it was at first
+pub holding-again : (e f : Entries) (memory : List Row) → trainees f ≡ trainees e → holding f (holding e memory) ≡ holding f memory
+holding-again e f memory t =
+    ap (λ d. map row-of (f .lists) ++ d)
+    (ap (λ k. drop k (holding e memory)) t
+    ∙ drop-at (map row-of (e .lists)) (drop (trainees e) memory) (trainees e) (length-map (e .lists) row-of)
+    ∙ ap (λ k. drop k memory) (sym t))
 
 -- rows that stand hold their entries, and beyond them what other memory has there
 pub held : (rows memory : List Row) (T P : ℕ) (places : List ℕ) → T ≤ length rows → Rowed rows T P places → drop T rows ≡ drop T memory → rows ≡ holding (entries-of rows T P places) memory

@@ -98,6 +98,9 @@ admitted m t list h =
       choices = b .1;
     }
 
+pub none-from-admitted : (m : Meaning) (t : ℕ) (list : List ℕ) → Admitted m t list → entry-refusal m t list ≡ None
+none-from-admitted m t list a = by-choices m t list (a .trainee) (a .long) ∙ a .choices
+
 -- what the check of an entry lets through is strict
 pub strict-from-none : (m : Meaning) (t : ℕ) (list : List ℕ) → m .rules .longest ≤ 12 → entry-refusal m t list ≡ None → Strict (practices (m .entries)) list
 strict-from-none m t list most h =

@@ -49,10 +49,10 @@ impl OpenSheet<'_> {
     fn list(&self, t: Trainee) -> &[u8]
         ensures { λ r. ⌜ now r ≡ list-of (entries-in (now (self .entry))) (t .0) ⌝ }
     {
-        if t.0 >= self.counts.trainees {
+        if t.0 >= self.trainees() {
             return &self.bytes[0..0];
         }
-        let mut at = 4 + 2 * self.counts.practices as usize;
+        let mut at = 4 + 2 * self.practices() as usize;
         for i in 0..t.0 {
             at += 1 + self.bytes[at] as usize;
         }
@@ -86,7 +86,7 @@ pub impl Roll for OpenSheet<'_> as OpenRoll {
     }
 
     fn places_of(&self, p: Practice) -> u16 {
-        if p.0 < self.counts.practices {
+        if p.0 < self.practices() {
             let at = 2 + 2 * p.0 as usize;
             256 * self.bytes[at] as u16 + self.bytes[at + 1] as u16
         } else {

@@ -1,6 +1,6 @@
 use mathlib.Core.Path.{refl}
 use Rattle.rules.specs.Meaning.{meant}
-use Rattle.layers.proofs.Entered.{without-none}
+use Rattle.layers.proofs.Closing.{without-none}
 use Rattle.layers.proofs.closed.Closed.new.Needs as need
 
 pub returns : need.returns

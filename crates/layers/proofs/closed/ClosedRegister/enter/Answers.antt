@@ -1,5 +1,6 @@
-use mathlib.Core.Path.{_≡_, _∙_, sym, ap}
+use mathlib.Core.Path.{_≡_, _∙_, ap}
 use Rattle.std.specs.declared.option.Option.the-variants.{None}
+use Rattle.std.specs.declared.result.Result.the-variants.{Ok}
 use Rattle.std.proofs.shelf.Results.{err-from-errBy}
 use Rattle.rules.specs.Meaning.{meant}
 use Rattle.rules.specs.Questions.{numbers}
@@ -15,7 +16,7 @@ returns-in-Break-enter g c =
     let m = meant (g .R·Roll .entries) (g .R·Terms .rules) (s .below) in
     let after = meant (g .R·Roll .entries) (g .R·Terms .rules) (c .enter .last .self) in
     let xs = numbers (c .args .list .now) in
-    let passed : entry-refusal (without-meaning (s .closed) m) (c .args .t .0) xs ≡ None = none-from-ok _ (c .in-Continue-answer .ensures tt ∙ ap answer-of (c .entry-refusal .ensures)) in
+    let passed : entry-refusal (without-meaning (s .closed) m) (c .args .t .0) xs ≡ None = none-from-ok (entry-refusal (without-meaning (s .closed) m) (c .args .t .0) xs) (c .in-Continue-answer .ensures tt ∙ ap answer-of (c .entry-refusal .ensures)) in
     let p = err-from-errBy (c .from-residual-in-Break-enter .result) (c .from-residual-in-Break-enter .ensures .1) in
     rw (p .1, p .2) (enter-closed (s .closed) m (c .args .t .0) xs _ after passed (c .in-Break-enter .ensures tt))
 
@@ -25,5 +26,5 @@ returns g c =
     let m = meant (g .R·Roll .entries) (g .R·Terms .rules) (s .below) in
     let after = meant (g .R·Roll .entries) (g .R·Terms .rules) (c .enter .last .self) in
     let xs = numbers (c .args .list .now) in
-    let passed : entry-refusal (without-meaning (s .closed) m) (c .args .t .0) xs ≡ None = none-from-ok _ (c .in-Continue-answer .ensures tt ∙ ap answer-of (c .entry-refusal .ensures)) in
-    enter-closed (s .closed) m (c .args .t .0) xs _ after passed (c .in-Continue-enter .ensures tt)
+    let passed : entry-refusal (without-meaning (s .closed) m) (c .args .t .0) xs ≡ None = none-from-ok (entry-refusal (without-meaning (s .closed) m) (c .args .t .0) xs) (c .in-Continue-answer .ensures tt ∙ ap answer-of (c .entry-refusal .ensures)) in
+    enter-closed (s .closed) m (c .args .t .0) xs (Ok tt) after passed (c .in-Continue-enter .ensures tt)

@@ -15,4 +15,4 @@ returns g c =
     let e = g .R·Roll .entries (s .below) in
     let t = c .args .t .0 in
     let whole : length (list-of e t) ≤ c .list-length .result = omega (arith, c .list-length .ensures) in
-    c .unclosed-among .ensures ∙ ap (λ l. length (kept-by (unclosed (s .closed)) l)) (take-all (c .list-length .result) (list-of e t) whole) ∙ sym (ap length (list-without (s .closed) e t))
+    c .shown-among .ensures ∙ ap (λ l. length (kept-by (unclosed (s .closed)) l)) (take-all (c .list-length .result) (list-of e t) whole) ∙ sym (ap length (list-without (s .closed) e t))

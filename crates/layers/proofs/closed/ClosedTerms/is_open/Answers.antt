@@ -1,5 +1,5 @@
-use mathlib.Core.Path.{_≡_, _∙_, sym}
-use mathlib.Core.Bool.{false}
+use mathlib.Core.Path.{_≡_, _∙_, sym, ap}
+use mathlib.Core.Bool.{false, not}
 use Rattle.rules.specs.Meaning.{meant, is-open}
 use Rattle.layers.specs.Shown.{without-meaning}
 use Rattle.layers.proofs.Entered.{open-without}
@@ -9,7 +9,7 @@ pub returns-then-is-open : need.returns-then-is-open
 returns-then-is-open g c =
     let s = c .args .self .now in
     let m = meant (g .R·Roll .entries) (g .R·Terms .rules) (s .below) in
-    c .is-unclosed .ensures ∙ sym (open-without (s .closed) m (c .args .p .0) ∙ rw (sym (c .if-is-open .ensures tt)))
+    ap not (c .is-closed .ensures) ∙ sym (open-without (s .closed) m (c .args .p .0) ∙ rw (sym (c .if-is-open .ensures tt)))
 
 pub returns-else-is-open : need.returns-else-is-open
 returns-else-is-open g c =
