@@ -31,7 +31,12 @@ fn call_of(kept: &Kept, planned: Planned, trainees: usize) -> Call<'_> {
 }
 
 // The script that the planned calls are; a challenge has room for as many seats as there are trainees.
-pub fn script_of<'a>(heap: Global, kept: &'a Kept, planned: &[Planned], trainees: usize) -> Result<Vec<Call<'a>>, AllocError> {
+pub fn script_of<'a>(
+    heap: Global,
+    kept: &'a Kept,
+    planned: &[Planned],
+    trainees: usize,
+) -> Result<Vec<Call<'a>>, AllocError> {
     let mut script = Vec::new(heap);
     for call in planned {
         script.push(call_of(kept, *call, trainees))?;

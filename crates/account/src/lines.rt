@@ -35,7 +35,11 @@ pub struct Kept {
 }
 
 fn ends(words: &mut Words<'_>, line: Line) -> Line {
-    if words.next().is_empty() { line } else { Line::NoCall }
+    if words.next().is_empty() {
+        line
+    } else {
+        Line::NoCall
+    }
 }
 
 fn open(words: &mut Words<'_>) -> Line {

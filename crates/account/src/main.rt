@@ -60,8 +60,21 @@ fn make(rt: &LibcRuntime, plan: &Plan) -> Result<Run, AllocError> {
     let mut answers = vec![in heap; Answer::Entered(Ok(())); plan.calls.len()]?;
     let mut placements = vec![in heap; 255u8; rooms(plan, trainees)]?;
     let script = script_of(heap, &plan.kept, plan.calls.as_slice(), trainees)?;
-    let _ = run_pile(plan, cells.as_mut_slice(), closings.as_mut_slice(), script.as_slice(), answers.as_mut_slice(), placements.as_mut_slice());
-    Ok(Run { opened, closings, answers, placements, trainees })
+    let _ = run_pile(
+        plan,
+        cells.as_mut_slice(),
+        closings.as_mut_slice(),
+        script.as_slice(),
+        answers.as_mut_slice(),
+        placements.as_mut_slice(),
+    );
+    Ok(Run {
+        opened,
+        closings,
+        answers,
+        placements,
+        trainees,
+    })
 }
 
 // Prints what the lines of the script came to, in their order.

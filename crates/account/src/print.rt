@@ -77,7 +77,11 @@ pub fn put_item(text: &mut Text, item: Item, opened: Closing, closings: &[Closin
             None => {}
         },
         Item::NoCall(number) => put_message(text, number, b"this is no call"),
-        Item::NotOpened(number) => put_message(text, number, b"the round is not open yet: open P T comes first"),
+        Item::NotOpened(number) => put_message(
+            text,
+            number,
+            b"the round is not open yet: open P T comes first",
+        ),
         Item::TooLate(number) => put_message(text, number, b"an opening line in the wrong place"),
         Item::Called(_) => {}
     }

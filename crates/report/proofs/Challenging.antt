@@ -60,16 +60,15 @@ module _ (e : Entries) (offered : List ℕ) (start text : List ℕ) where
           let strong = rival (at ∙ q) in
           let count : k ≡ m = ok-is k m (ap (λ x. x .0) gave) in
           let is : after ≡ bytes-of (trainees e) N =
-              sym (ap (λ x. x .1) gave) ∙ ap (λ z. bytes-of (trainees e) N ++ z) (drop-all (trainees e) before (omega (arith, l))) ∙ append-nil (bytes-of (trainees e) N)
+          sym (ap (λ x. x .1) gave) ∙ ap (λ z. bytes-of (trainees e) N ++ z) (drop-all (trainees e) before (omega (arith, l))) ∙ append-nil (bytes-of (trainees e) N)
           in
-          let same = lines-are (trainees e) N after (small-seats e law N (strong .feasible)) is in
-          (
+          let same = lines-are (trainees e) N after (small-seats e law N (strong .feasible)) is in (
             k,
             N,
             λ z. strong,
             p ∙ ap (λ x. kept (start ++ x)) (
-              ap₂ (λ a b. line (codes "majority " ++ decimal a) ++ b) (sym count) (same .1) ∙ sym (ap (λ z. rival-text z e k N) q)
-            ),
+                ap₂ (λ a b. line (codes "majority " ++ decimal a) ++ b) (sym count) (same .1) ∙ sym (ap (λ z. rival-text z e k N) q)
+                ),
             subst (λ z. length (rival-text z e k N) ≤ 4096) (sym q) (rival-short e law k N (strong .feasible) (subst (λ z. length (decimal z) ≤ 20) (sym count) short)),
           )
 

@@ -97,14 +97,13 @@ verdict-placed e law (Some M) v before after k i h j start text p =
     let part = take (i - 0) (drop 0 after) in
     let is : part ≡ bytes-of n M = ap (λ b. take (i - 0) (drop 0 b)) (sym (ap (λ q. q .1) h)) ∙ part-is n i M before j in
     let same = lines-are n M part (small-seats e law M (v .unbeaten .feasible)) is in
-    let count : k ≡ seated n M = sym (ok-is _ _ (ap (λ q. q .0) h)) in
-    (
+    let count : k ≡ seated n M = sym (ok-is _ _ (ap (λ q. q .0) h)) in (
       Some M,
       v,
       p ∙ ap (λ x. kept (start ++ x)) (
-        ap₂ (λ a b. line (codes "placed " ++ decimal a ++ codes " of " ++ decimal b) ++ seat-lines (length part) (offered-by part)) count (same .0) ∙
-        ap (λ x. line (codes "placed " ++ decimal (seated n M) ++ codes " of " ++ decimal n) ++ x) (same .1)
-      ),
+          ap₂ (λ a b. line (codes "placed " ++ decimal a ++ codes " of " ++ decimal b) ++ seat-lines (length part) (offered-by part)) count (same .0) ∙
+          ap (λ x. line (codes "placed " ++ decimal (seated n M) ++ codes " of " ++ decimal n) ++ x) (same .1)
+          ),
       placement-short e law M (v .unbeaten .feasible),
     )
 
@@ -129,8 +128,7 @@ pub handed :
     (whole text before after : List ℕ) (n : ℕ) → text ≡ kept whole → length whole ≤ 4096 → 4096 ≤ length before → n ≡ length text → after ≡ text ++ drop (length text) before →
     (text-outcome whole before ≡ (Ok n, after)) × (n ≤ 4096)
 handed whole text before after n h l m k b =
-    let same : text ≡ whole = h ∙ kept-short whole l in
-    (
+    let same : text ≡ whole = h ∙ kept-short whole l in (
       rw (le-leb 4096 (length before) m) (ap₂ (λ i x. (Ok i, x)) (ap length (sym same) ∙ sym k) (ap (λ t. t ++ drop (length t) before) (sym same) ∙ sym b)),
       omega (arith, k, ap length same),
     )

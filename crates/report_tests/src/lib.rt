@@ -20,7 +20,9 @@ mod tests {
     fn reports(case: Case) -> bool {
         let mut buffer = [7; 5000];
         match report(case.sheet, &mut buffer) {
-            Ok(length) => buffer.get(0..length) == Some(case.text) && buffer[4999] == 7 && buffer[length] == 7,
+            Ok(length) => buffer.get(0..length) == Some(case.text)
+                && buffer[4999] == 7
+                && buffer[length] == 7,
             Err(_) => false,
         }
     }
@@ -28,7 +30,9 @@ mod tests {
     fn challenges(case: Case) -> bool {
         let mut buffer = [7; 5000];
         match challenge_text(case.sheet, &mut buffer) {
-            Ok(length) => buffer.get(0..length) == Some(case.text) && buffer[4999] == 7 && buffer[length] == 7,
+            Ok(length) => buffer.get(0..length) == Some(case.text)
+                && buffer[4999] == 7
+                && buffer[length] == 7,
             Err(_) => false,
         }
     }
@@ -37,7 +41,10 @@ mod tests {
     fn worked_rounds() -> Result<(), Fail> {
         let cases = [
             case(b"\x00\x00\x00\x00\x00\x00", b"placed 0 of 0\n"),
-            case(b"\x00\x01\x00\x01\x00\x01\x00\x00\x00", b"placed 0 of 1\n0 -\n"),
+            case(
+                b"\x00\x01\x00\x01\x00\x01\x00\x00\x00",
+                b"placed 0 of 1\n0 -\n",
+            ),
             case(
                 b"\x00\x02\x00\x01\x00\x01\x00\x03\x02\x00\x01\x01\x00\x00\x00\x00",
                 b"placed 2 of 3\n0 1\n1 0\n2 -\n",

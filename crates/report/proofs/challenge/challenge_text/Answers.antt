@@ -18,7 +18,7 @@ returns c =
     let gave = c .put-challenged .ensures in
     let whole = challenge-text (reading (c .args .sheet .now)) (gave .0) (gave .1) in
     let done =
-        handed whole (text (c .put-challenged .last .text)) (c .args .buffer .now) (c .hand-over .last .buffer) (c .hand-over .result)
-        (gave .3 ∙ ap (λ s. kept (s ++ whole)) (c .new-text .ensures)) (gave .4) (c .if-buffer-lt4096 .left) (c .hand-over .ensures .len) (c .hand-over .ensures .bytes)
+    handed whole (text (c .put-challenged .last .text)) (c .args .buffer .now) (c .hand-over .last .buffer) (c .hand-over .result)
+    (gave .3 ∙ ap (λ s. kept (s ++ whole)) (c .new-text .ensures)) (gave .4) (c .if-buffer-lt4096 .left) (c .hand-over .ensures .len) (c .hand-over .ensures .bytes)
     in
     record { reports = (gave .0, gave .1, λ _. gave .2, done .0); within = done .1 }

@@ -9,7 +9,7 @@ returns c =
     record {
       short = c .put-number .ensures .short;
       after =
-    rival-put (text (c .args .text .now)) (text (c .put .last .self)) (text (c .put-number .last .self)) (text (c .push .last .self)) (text (c .put-seats .last .text))
-    (c .args .majority) (length (c .args .seats .now)) (offered-by (c .args .seats .now))
-    (c .put .ensures) (c .put-number .ensures .after) (c .push .ensures) (c .put-seats .ensures);
+          rival-put (text (c .args .text .now)) (text (c .put .last .self)) (text (c .put-number .last .self)) (text (c .push .last .self)) (text (c .put-seats .last .text))
+          (c .args .majority) (length (c .args .seats .now)) (offered-by (c .args .seats .now))
+          (c .put .ensures) (c .put-number .ensures .after) (c .push .ensures) (c .put-seats .ensures);
     }

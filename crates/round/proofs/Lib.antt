@@ -1,0 +1,9 @@
+pub mod Appending
+pub mod Agreeing
+pub mod Counting
+pub mod Going
+pub mod Entering
+pub mod Allotting
+pub mod Standing
+pub mod Noting
+pub mod Writing
