@@ -42,7 +42,7 @@ fn rooms(plan: &Plan, trainees: usize) -> usize {
 
 /// What the script answered.
 #[derive(Drop)]
-struct Run {
+struct Ran {
     opened: Closing,
     closings: Vec<Closing>,
     answers: Vec<Answer>,
@@ -50,7 +50,7 @@ struct Run {
     trainees: usize,
 }
 
-fn make(rt: &LibcRuntime, plan: &Plan) -> Result<Run, AllocError> {
+fn make(rt: &LibcRuntime, plan: &Plan) -> Result<Ran, AllocError> {
     let heap = rt.alloc();
     let needed = plan.practices as usize * plan.trainees as usize;
     let mut cells = vec![in heap; 0u8; needed]?;
@@ -68,7 +68,7 @@ fn make(rt: &LibcRuntime, plan: &Plan) -> Result<Run, AllocError> {
         answers.as_mut_slice(),
         placements.as_mut_slice(),
     );
-    Ok(Run {
+    Ok(Ran {
         opened,
         closings,
         answers,
@@ -78,20 +78,20 @@ fn make(rt: &LibcRuntime, plan: &Plan) -> Result<Run, AllocError> {
 }
 
 // Prints what the lines of the script came to, in their order.
-fn print(rt: &LibcRuntime, plan: &Plan, run: &Run) -> Result<(), AnyError> {
+fn print_account(rt: &LibcRuntime, plan: &Plan, ran: &Ran) -> Result<(), AnyError> {
     let mut used = 0usize;
     for item in plan.items.as_slice() {
         let mut text = Text::new();
         if let Item::Called(at) = *item {
-            if let (Some(call), Some(answer)) = (plan.calls.get(at), run.answers.get(at)) {
-                let end = used.saturating_add(room_of(*call, run.trainees));
-                if let Some(seats) = run.placements.as_slice().get(used..end) {
+            if let (Some(call), Some(answer)) = (plan.calls.get(at), ran.answers.get(at)) {
+                let end = used.saturating_add(room_of(*call, ran.trainees));
+                if let Some(seats) = ran.placements.as_slice().get(used..end) {
                     put_answer(&mut text, *answer, seats);
                 }
                 used = end;
             }
         } else {
-            put_item(&mut text, *item, run.opened, run.closings.as_slice());
+            put_item(&mut text, *item, ran.opened, ran.closings.as_slice());
         }
         rt.write_all(text.as_bytes())?;
     }
@@ -103,8 +103,8 @@ fn run(rt: &LibcRuntime) -> Result<(), AnyError> {
     let mut script = Vec::new(heap);
     rt.stdin().read_to_end(&mut script)?;
     let plan = read_script(heap, script.as_slice())?;
-    let run = make(rt, &plan)?;
-    print(rt, &plan, &run)
+    let ran = make(rt, &plan)?;
+    print_account(rt, &plan, &ran)
 }
 
 fn main(rt: LibcRuntime) -> Result<(), AnyError> {
