@@ -43,12 +43,3 @@ pub fn script_of<'a>(
     }
     Ok(script)
 }
-
-// How much memory the placements of one call want.
-pub fn room_of(planned: Planned, trainees: usize) -> usize {
-    match planned {
-        Planned::Allot(_, _) => trainees,
-        Planned::Challenge(_, _) => trainees,
-        _ => 0,
-    }
-}

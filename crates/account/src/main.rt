@@ -6,7 +6,6 @@ mod plan;
 mod print;
 mod words;
 
-use crate::calls::room_of;
 use crate::calls::script_of;
 use crate::pile::Closing;
 use crate::pile::run_pile;
@@ -16,33 +15,18 @@ use crate::plan::read_script;
 use crate::print::put_answer;
 use crate::print::put_item;
 use rank_grid::grid::RankGrid;
+use round::rooms::needed;
+use round::rooms::room_for;
 use round::script::Answer;
-use rules::words::Refusal;
-use std::alloc::AllocError;
+use round::script::Call;
 use std::error::AnyError;
 use std::io::Read;
 use texts::text::Text;
 
-// As many trainees as the round will have.
-fn trainees_of(plan: &Plan, opened: Closing) -> usize {
-    match opened {
-        Ok(()) => plan.trainees as usize,
-        Err(_) => 0,
-    }
-}
-
-// The bytes that all placements of the script want.
-fn rooms(plan: &Plan, trainees: usize) -> usize {
-    let mut all = 0usize;
-    for call in plan.calls.as_slice() {
-        all = all.saturating_add(room_of(*call, trainees));
-    }
-    all
-}
-
-/// What the script answered.
+/// A script that was made: its calls, and what they answered.
 #[derive(Drop)]
-struct Ran {
+struct Ran<'a> {
+    script: Vec<Call<'a>>,
     opened: Closing,
     closings: Vec<Closing>,
     answers: Vec<Answer>,
@@ -50,17 +34,27 @@ struct Ran {
     trainees: usize,
 }
 
-fn make(rt: &LibcRuntime, plan: &Plan) -> Result<Ran, AllocError> {
+// How many cells and trainees the round has: none where its opening is refused.
+fn sizes(plan: &Plan, opened: Closing) -> (usize, usize) {
+    match opened {
+        Ok(()) => (
+            plan.practices as usize * plan.trainees as usize,
+            plan.trainees as usize,
+        ),
+        Err(_) => (0, 0),
+    }
+}
+
+fn make<'a>(rt: &LibcRuntime, plan: &'a Plan) -> Result<Ran<'a>, AnyError> {
     let heap = rt.alloc();
-    let needed = plan.practices as usize * plan.trainees as usize;
-    let mut cells = vec![in heap; 0u8; needed]?;
-    let opened = RankGrid::check(plan.practices, plan.trainees, needed);
-    let trainees = trainees_of(plan, opened);
+    let opened = RankGrid::check(plan.practices, plan.trainees, usize::MAX);
+    let (cells, trainees) = sizes(plan, opened);
+    let mut cells = vec![in heap; 0u8; cells]?;
     let mut closings = vec![in heap; Ok(()); plan.closed.len()]?;
     let mut answers = vec![in heap; Answer::Entered(Ok(())); plan.calls.len()]?;
-    let mut placements = vec![in heap; 255u8; rooms(plan, trainees)]?;
     let script = script_of(heap, &plan.kept, plan.calls.as_slice(), trainees)?;
-    let _ = run_pile(
+    let mut placements = vec![in heap; 255u8; needed(script.as_slice(), trainees)]?;
+    let served = run_pile(
         plan,
         cells.as_mut_slice(),
         closings.as_mut_slice(),
@@ -68,7 +62,11 @@ fn make(rt: &LibcRuntime, plan: &Plan) -> Result<Ran, AllocError> {
         answers.as_mut_slice(),
         placements.as_mut_slice(),
     );
+    if served.is_err() {
+        return Err("there is too little memory for the account".into());
+    }
     Ok(Ran {
+        script,
         opened,
         closings,
         answers,
@@ -78,13 +76,13 @@ fn make(rt: &LibcRuntime, plan: &Plan) -> Result<Ran, AllocError> {
 }
 
 // Prints what the lines of the script came to, in their order.
-fn print_account(rt: &LibcRuntime, plan: &Plan, ran: &Ran) -> Result<(), AnyError> {
+fn print_account(rt: &LibcRuntime, plan: &Plan, ran: &Ran<'_>) -> Result<(), AnyError> {
     let mut used = 0usize;
     for item in plan.items.as_slice() {
         let mut text = Text::new();
         if let Item::Called(at) = *item {
-            if let (Some(call), Some(answer)) = (plan.calls.get(at), ran.answers.get(at)) {
-                let end = used.saturating_add(room_of(*call, ran.trainees));
+            if let (Some(call), Some(answer)) = (ran.script.get(at), ran.answers.get(at)) {
+                let end = used.saturating_add(room_for(*call, ran.trainees));
                 if let Some(seats) = ran.placements.as_slice().get(used..end) {
                     put_answer(&mut text, *answer, seats);
                 }

@@ -1,6 +1,4 @@
 // The account in words, a line for each line of the script.
-use crate::calls::room_of;
-use crate::lines::Planned;
 use crate::pile::Closing;
 use crate::plan::Item;
 use round::script::Answer;
@@ -56,6 +54,12 @@ fn put_seat(text: &mut Text, answer: Result<Option<Practice>, Refusal>) {
     }
 }
 
+fn put_cut(text: &mut Text, most: usize) {
+    text.put(b"lists are cut to ");
+    text.put_number(most);
+    text.push(b'\n');
+}
+
 // The answer of a call; `seats` is its room.
 pub fn put_answer(text: &mut Text, answer: Answer, seats: &[u8]) {
     match answer {
@@ -71,7 +75,7 @@ pub fn put_answer(text: &mut Text, answer: Answer, seats: &[u8]) {
 pub fn put_item(text: &mut Text, item: Item, opened: Closing, closings: &[Closing]) {
     match item {
         Item::Opened => put_accepted(text, opened, b"opened"),
-        Item::Shortened(_) => text.put(b"lists are cut\n"),
+        Item::Shortened(most) => put_cut(text, most),
         Item::Closed(at) => match closings.get(at) {
             Some(answer) => put_accepted(text, *answer, b"closed"),
             None => {}

@@ -3,7 +3,7 @@ pub mod calls;
 mod makes;
 mod notes;
 mod refusing;
-mod rooms;
+pub mod rooms;
 pub mod rounds;
 pub mod script;
 pub mod serving;

@@ -5,7 +5,7 @@ ghost use Rattle.round.specs.Serving.{room-of, rooms as all-rooms};
 use crate::script::Call;
 
 // The room that a call takes in the memory for placements.
-pub(crate) fn room_for(call: Call<'_>, trainees: usize) -> usize
+pub fn room_for(call: Call<'_>, trainees: usize) -> usize
     ensures { λ r. ⌜ r ≡ room-of trainees (call .entry) ⌝ }
 {
     match call {
@@ -16,7 +16,7 @@ pub(crate) fn room_for(call: Call<'_>, trainees: usize) -> usize
 }
 
 // The rooms of all calls together, as far as a number goes.
-pub(crate) fn needed(script: &[Call<'_>], trainees: usize) -> usize
+pub fn needed(script: &[Call<'_>], trainees: usize) -> usize
     ensures { λ r. ⌜ r ≡ min (all-rooms trainees (now (script .entry))) (2 ^ 64 - 1) ⌝ }
 {
     let mut n = 0usize;

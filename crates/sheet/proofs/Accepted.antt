@@ -1,17 +1,17 @@
 -- What is accepted is a sheet, and every sheet is accepted.
 use Prim.Native.Nat.{ℕ}
-use mathlib.Core.Path.{_≡_, refl, sym, ap, _∙_}
-use mathlib.Core.List.{List, []}
+use mathlib.Core.Path.{_≡_, refl, sym, ap}
+use mathlib.Core.List.{List}
 use native.Mathlib.Omega.{arith}
 use Rattle.std.specs.declared.result.Result.{Result}
 use Rattle.std.specs.declared.result.Result.the-variants.{Ok, Err}
 use Rattle.rules.specs.declared.words.Refusal.{Refusal}
-use Rattle.rules.specs.Meaning.{Entries, nobody}
+use Rattle.rules.specs.Meaning.{Entries}
 use Rattle.sheet.specs.declared.counts.Counts.{Counts}
 use Rattle.sheet.specs.Filing.{Filing}
 use Rattle.sheet.specs.Reading.{reading}
 use Rattle.sheet.specs.Told.{accepted}
-use Rattle.sheet.specs.Opened.{read-or-nobody, opened, counts-of, counts-read}
+use Rattle.sheet.specs.Opened.{counts-of, counts-read}
 use Rattle.sheet.specs.Statement.{Bytes, Sheet-of, Reads-the-sheets}
 use Rattle.sheet.proofs.Whole.{accepts, only, reads-the-sheets}
 
@@ -45,10 +45,3 @@ answers-err b d bytes h =
       only = λ e. let z : _≡_ {A = ℕ} 0 1 = cc in let w : ⊥ = omega arith in absurd w;
       every = λ e f s. let a = accepts b e f s in let z : _≡_ {A = ℕ} 0 1 = cc in let w : ⊥ = omega arith in absurd w;
     }
-
--- The counts of what bytes open as.
-pub opened-ok : (b : List ℕ) (k : Counts) → Ok k ≡ counts-read (reading b) → k ≡ counts-of (opened b)
-opened-ok b k h = let r = counts-ok (reading b) k h in r .2 ∙ sym (ap (λ (q : Result (Entries × Filing) Refusal). counts-of (read-or-nobody q)) (r .1))
-
-pub opened-err : (b : List ℕ) (d : Refusal) → Err d ≡ counts-read (reading b) → opened b ≡ (nobody, [])
-opened-err b d h = ap read-or-nobody (counts-err (reading b) d h)

@@ -1,16 +1,15 @@
 -- A list of choices is read back.
-use Prim.Native.Nat.{ℕ, zero, suc, _+_, _-_, _*_, _<_, _≤_}
-use mathlib.Core.Path.{_≡_, refl, sym, ap, _∙_, subst}
+use Prim.Native.Nat.{ℕ, zero, suc}
+use mathlib.Core.Path.{_≡_, refl, ap, _∙_, subst}
 use mathlib.Core.List.{List, [], _∷_, _++_}
 use native.Mathlib.Omega.{arith}
-use lib.ListN.{length, getD}
-use Rattle.std.specs.declared.option.Option.{Option}
-use Rattle.std.specs.declared.option.Option.the-variants.{Some, None}
+use lib.ListN.{length}
+use Rattle.std.specs.declared.option.Option.the-variants.{None}
 use Rattle.std.specs.declared.result.Result.{Result}
-use Rattle.std.specs.declared.result.Result.the-variants.{Ok, Err}
+use Rattle.std.specs.declared.result.Result.the-variants.{Ok}
 use Rattle.rules.specs.declared.words.Refusal.{Refusal}
 use Rattle.sheet.specs.Format.{single, measured}
-use Rattle.sheet.specs.Reading.{Reader, andThen, one, above, off-choice, choices, list}
+use Rattle.sheet.specs.Reading.{andThen, one, above, off-choice, choices, list}
 use Rattle.sheet.proofs.Readers.{Each, Byte, each-behind, both, Reads, reads-one}
 
 -- Each choice is fine after those before it.

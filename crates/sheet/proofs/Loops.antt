@@ -1,5 +1,5 @@
 -- Reading one after another, as code does.
-use Prim.Native.Nat.{ℕ, zero, suc, _+_, _-_, _*_, _<_, _≤_}
+use Prim.Native.Nat.{ℕ, zero, suc, _+_, _-_, _<_, _≤_}
 use mathlib.Core.Path.{_≡_, refl, sym, ap, _∙_}
 use mathlib.Core.List.{List, [], _∷_, _++_}
 use native.Mathlib.Omega.{arith}
@@ -64,10 +64,6 @@ counted-number size wrong read bytes = go (two size wrong bytes)
     go : (r : Result (ℕ × List ℕ) Refusal) → numbered (andThen r (λ n. several read (n .0) (n .1))) ≡ andThen r (λ n. andThen (left (several read (n .0) (n .1))) (λ rest. Ok (n .0, rest)))
     go (Ok n) = several-number read (n .0) (n .1)
     go (Err d) = refl
-
-pub left-then : {X Y : Type 0} (r : Result X Refusal) (next : X → Result (Y × List ℕ) Refusal) → left (andThen r next) ≡ andThen r (λ x. left (next x))
-left-then (Ok x) next = refl
-left-then (Err d) next = refl
 
 -- A choice that is taken is the first byte.
 first-of : (size : ℕ) (wrong : ℕ → Option Reason) (bytes rest : List ℕ) → left (one size wrong bytes) ≡ Ok rest → (1 ≤ length bytes) × (rest ≡ drop 1 bytes) × (one size wrong bytes ≡ Ok (getD bytes 0 0, rest))

@@ -1,10 +1,9 @@
 -- Readers that read back what is shown, and nothing else.
-use Prim.Native.Nat.{ℕ, zero, suc, _+_, _-_, _*_, _/_, _%_, _<_, _≤_}
+use Prim.Native.Nat.{ℕ, zero, suc, _+_, _*_, _/_, _%_, _<_}
 use mathlib.Core.Path.{_≡_, refl, sym, ap, _∙_, subst}
-use mathlib.Core.Bool.{Bool, true, false, cond}
 use mathlib.Core.List.{List, [], _∷_, _++_}
 use native.Mathlib.Omega.{arith}
-use lib.ListN.{length, getD}
+use lib.ListN.{length}
 use Rattle.std.specs.shelf.Lists.{joined}
 use Rattle.std.proofs.shelf.Lists.{append-assoc}
 use Rattle.std.specs.declared.option.Option.{Option}
@@ -14,7 +13,7 @@ use Rattle.std.specs.declared.result.Result.the-variants.{Ok, Err}
 use Rattle.rules.specs.declared.words.Reason.{Reason}
 use Rattle.rules.specs.declared.words.Refusal.{Refusal}
 use Rattle.sheet.specs.Format.{single, pair, section}
-use Rattle.sheet.specs.Reading.{Reader, andThen, judged, ended, one, two, several, counted}
+use Rattle.sheet.specs.Reading.{Reader, andThen, judged, one, two, several, counted}
 
 -- P of each element.
 abbrev pub Each : {X : Type 0} → (X → Type 0) → List X → Type 0

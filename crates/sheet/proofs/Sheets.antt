@@ -1,6 +1,6 @@
 -- What bytes that open hold, and where.
 use Prim.Native.Nat.{ℕ, zero, suc, _+_, _-_, _*_, _/_, _%_, _<_, _≤_}
-use mathlib.Core.Path.{_≡_, refl, sym, ap, _∙_, subst}
+use mathlib.Core.Path.{_≡_, refl, sym, ap, _∙_}
 use mathlib.Core.Logic.{_⊎_, inl, inr}
 use mathlib.Core.List.{List, [], _∷_, _++_}
 use native.Mathlib.Omega.{arith}
@@ -14,7 +14,7 @@ use Rattle.rules.specs.declared.words.Refusal.{Refusal}
 use Rattle.rules.specs.Meaning.{Entries, Lawful, nobody, trainees, practices, places-of, list-of}
 use Rattle.rules.proofs.Lawfully.{strict-of}
 use Rattle.sheet.specs.Filing.{Filing}
-use Rattle.sheet.specs.Format.{single, pair, measured, section, sheet}
+use Rattle.sheet.specs.Format.{single, pair, measured, section}
 use Rattle.sheet.specs.Reading.{reading}
 use Rattle.sheet.specs.Opened.{read-or-nobody, opened}
 use Rattle.sheet.specs.Statement.{Bytes, Sheet-of}

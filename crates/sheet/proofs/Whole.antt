@@ -1,20 +1,18 @@
 -- The whole sheet.
-use Prim.Native.Nat.{ℕ, zero, suc, _+_, _-_, _*_, _<_, _≤_}
+use Prim.Native.Nat.{ℕ}
 use mathlib.Core.Path.{_≡_, refl, sym, ap, _∙_, subst}
 use mathlib.Core.List.{List, [], _∷_, _++_}
 use native.Mathlib.Omega.{arith}
 use lib.ListN.{length, getD}
-use Rattle.std.proofs.shelf.Lists.{append-assoc, append-nil}
-use Rattle.std.specs.declared.option.Option.the-variants.{Some, None}
-use Rattle.std.specs.declared.result.Result.{Result}
-use Rattle.std.specs.declared.result.Result.the-variants.{Ok, Err}
-use Rattle.rules.specs.declared.words.Refusal.{Refusal}
-use Rattle.rules.specs.Meaning.{Entries, Lawful, Strict}
+use Rattle.std.proofs.shelf.Lists.{append-nil}
+use Rattle.std.specs.declared.option.Option.the-variants.{None}
+use Rattle.std.specs.declared.result.Result.the-variants.{Ok}
+use Rattle.rules.specs.Meaning.{Entries, Lawful}
 use Rattle.rules.specs.Refusals.{off-places}
 use Rattle.rules.proofs.Checking.{on-places}
 use Rattle.sheet.specs.Filing.{Filing, Fitting}
 use Rattle.sheet.specs.Format.{single, pair, measured, section, sheet}
-use Rattle.sheet.specs.Reading.{Reader, andThen, one, two, above, off-count, off-filed, list, practices-section, trainees-section, filing-section, finished, reading}
+use Rattle.sheet.specs.Reading.{above, off-count, off-filed, practices-section, trainees-section, filing-section, finished, reading}
 use Rattle.sheet.specs.Statement.{Bytes, Sheet-of, Reads-the-sheets}
 use Rattle.sheet.proofs.Readers.{Each, Byte, each-behind, both, Reads, reads-one, reads-two, reads-counted}
 use Rattle.sheet.proofs.Lists.{Fine-list, reads-list}

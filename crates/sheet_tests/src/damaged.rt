@@ -1,4 +1,4 @@
-// What damaged sheets are refused with: the reason's number and the place.
+// Damaged sheets: what they are refused with, and at which byte.
 use rules::words::Reason;
 use rules::words::RefusalDebug;
 use rules::words::RefusalPartialEq;
@@ -7,8 +7,8 @@ use sheet::refusal::of_sheet;
 use std::test::Fail;
 use std::test::check_eq;
 
-// Three trainees and two practices with a place each.
-static WORKED: [u8; 16] = [0, 2, 0, 1, 0, 1, 0, 3, 2, 0, 1, 1, 0, 0, 0, 0];
+// Two practices with a place each, and three trainees, with lists of 2, 1 and 0 choices.
+static THREE: [u8; 16] = [0, 2, 0, 1, 0, 1, 0, 3, 2, 0, 1, 1, 0, 0, 0, 0];
 
 fn accepted(bytes: &[u8]) -> Result<(), Fail> {
     check_eq(check(bytes), Ok(()))
@@ -19,95 +19,59 @@ fn refused(bytes: &[u8], reason: Reason, place: usize) -> Result<(), Fail> {
 }
 
 #[test]
-fn ends_early() -> Result<(), Fail> {
+fn every_front_ends_early() -> Result<(), Fail> {
     for n in 0..16 {
-        refused(&WORKED[0..n], Reason::SheetEnds, n)?;
+        refused(&THREE[0..n], Reason::SheetEnds, n)?;
     }
-    accepted(&WORKED)
+    accepted(&THREE)
 }
 
 #[test]
 fn counts_and_places() -> Result<(), Fail> {
-    accepted(&[0, 0, 0, 0, 0, 0])?;
-    refused(&[0, 0, 0, 0, 0, 0, 0], Reason::BytesFollow, 6)?;
-    refused(&[0, 101], Reason::CountOutOfBounds, 0)?;
-    refused(&[0, 0, 1, 145], Reason::CountOutOfBounds, 2)?;
-    refused(&[0, 0, 0, 0, 0, 1], Reason::CountOutOfBounds, 4)?;
-    refused(&[0, 1, 0, 0], Reason::PlacesOutOfBounds, 2)?;
-    accepted(&[0, 1, 0, 1, 0, 0, 0, 0])?;
-    accepted(&[0, 1, 1, 144, 0, 0, 0, 0])?;
-    refused(&[0, 1, 1, 145], Reason::PlacesOutOfBounds, 2)
+    accepted(b"\x00\x00\x00\x00\x00\x00")?;
+    refused(b"\x00\x00\x00\x00\x00\x00\x00", Reason::BytesFollow, 6)?;
+    refused(b"\x00\x65", Reason::CountOutOfBounds, 0)?;
+    refused(b"\x00\x00\x01\x91", Reason::CountOutOfBounds, 2)?;
+    refused(b"\x00\x00\x00\x00\x00\x01", Reason::CountOutOfBounds, 4)?;
+    refused(b"\x00\x01\x00\x00", Reason::PlacesOutOfBounds, 2)?;
+    accepted(b"\x00\x01\x00\x01\x00\x00\x00\x00")?;
+    accepted(b"\x00\x01\x01\x90\x00\x00\x00\x00")?;
+    refused(b"\x00\x01\x01\x91", Reason::PlacesOutOfBounds, 2)
 }
 
 #[test]
 fn lists() -> Result<(), Fail> {
-    refused(&[0, 1, 0, 1, 0, 1, 1, 1], Reason::PracticeNotOffered, 7)?;
-    refused(&[0, 2, 0, 1, 0, 1, 0, 1, 2, 0, 0], Reason::Repeated, 10)?;
-    refused(&[0, 1, 0, 1, 0, 1, 13], Reason::CountOutOfBounds, 6)?;
+    refused(
+        b"\x00\x01\x00\x01\x00\x01\x01\x01",
+        Reason::PracticeNotOffered,
+        7,
+    )?;
+    refused(
+        b"\x00\x02\x00\x01\x00\x01\x00\x01\x02\x00\x00",
+        Reason::Repeated,
+        10,
+    )?;
+    refused(b"\x00\x01\x00\x01\x00\x01\x0d", Reason::CountOutOfBounds, 6)?;
     accepted(
-        &[
-            0,
-            12,
-            0,
-            1,
-            0,
-            1,
-            0,
-            1,
-            0,
-            1,
-            0,
-            1,
-            0,
-            1,
-            0,
-            1,
-            0,
-            1,
-            0,
-            1,
-            0,
-            1,
-            0,
-            1,
-            0,
-            1,
-            0,
-            1,
-            12,
-            11,
-            10,
-            9,
-            8,
-            7,
-            6,
-            5,
-            4,
-            3,
-            2,
-            1,
-            0,
-            0,
-            0,
-        ],
+        b"\x00\x0c\0\x01\0\x01\0\x01\0\x01\0\x01\0\x01\0\x01\0\x01\0\x01\0\x01\0\x01\0\x01\x00\x01\x0c\x0b\x0a\x09\x08\x07\x06\x05\x04\x03\x02\x01\x00\x00\x00",
     )
 }
 
 #[test]
 fn filings() -> Result<(), Fail> {
-    accepted(&[0, 2, 0, 1, 0, 1, 0, 3, 2, 0, 1, 1, 0, 0, 0, 3, 1, 0, 255])?;
+    accepted(b"\x00\x02\x00\x01\x00\x01\x00\x03\x02\x00\x01\x01\x00\x00\x00\x03\x01\x00\xff")?;
     refused(
-        &[0, 2, 0, 1, 0, 1, 0, 3, 2, 0, 1, 1, 0, 0, 0, 1, 0],
+        b"\x00\x02\x00\x01\x00\x01\x00\x03\x02\x00\x01\x01\x00\x00\x00\x01\x00",
         Reason::CountOutOfBounds,
         14,
     )?;
     refused(
-        &[0, 2, 0, 1, 0, 1, 0, 3, 2, 0, 1, 1, 0, 0, 0, 3, 1, 2, 255],
+        b"\x00\x02\x00\x01\x00\x01\x00\x03\x02\x00\x01\x01\x00\x00\x00\x03\x01\x02\xff",
         Reason::PracticeNotOffered,
         17,
     )?;
     refused(
-        &[0, 2, 0, 1, 0, 1, 0, 3, 2, 0, 1, 1, 0, 0, 0, 0, 0],
+        b"\x00\x02\x00\x01\x00\x01\x00\x03\x02\x00\x01\x01\x00\x00\x00\x00\x00",
         Reason::BytesFollow,
         16,
     )

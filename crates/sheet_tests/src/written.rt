@@ -16,7 +16,7 @@ use std::test::Fail;
 use std::test::check;
 use std::test::check_eq;
 
-// Three trainees and two practices with 1 and 300 places; the second has no seat.
+// Two practices with 1 and 300 places, and three trainees, of whom the first has a seat.
 static FILED: [u8; 19] = [0, 2, 0, 1, 1, 44, 0, 3, 2, 0, 1, 1, 0, 0, 0, 3, 1, 255, 255];
 
 #[test]
@@ -50,7 +50,7 @@ fn written_back() -> Result<(), Fail> {
     check_eq(rewrite(&FILED, &mut buffer), Ok(19))?;
     check(buffer[0..19] == FILED[0..19])?;
     check_eq(buffer[19], 7)?;
-    check_eq(rewrite(&[0, 0, 0, 0, 0, 0], &mut buffer), Ok(6))?;
+    check_eq(rewrite(b"\x00\x00\x00\x00\x00\x00", &mut buffer), Ok(6))?;
     check_eq(
         rewrite(&FILED[0..18], &mut buffer),
         Err(of_sheet(Reason::SheetEnds, 18)),

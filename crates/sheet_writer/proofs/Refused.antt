@@ -1,15 +1,15 @@
 -- What is not refused: the room there is, and a filing that fits.
 use Prim.Native.Nat.{ℕ, zero, suc, _+_, _<_, _≤_}
 use mathlib.Core.Path.{_≡_, refl, sym, ap, _∙_}
-use mathlib.Core.Bool.{Bool, true, false, cond, _||_}
+use mathlib.Core.Bool.{true, _||_}
 use mathlib.Core.Logic.{_⊎_, inl, inr}
-use mathlib.Core.List.{List, [], _∷_}
+use mathlib.Core.List.{[], _∷_}
 use native.Mathlib.Omega.{arith}
 use native.Mathlib.Numerals.{add-one}
 use lib.Dec.{leb, eqb}
 use lib.ListN.{length, getD, drop}
 use Rattle.std.proofs.shelf.Lists.{at-drop-more}
-use Rattle.std.proofs.shelf.Tests.{or-cases, or-left, or-right, or-from, eqb-true, leb-true, eq-eqb, ne-eqb, le-leb, lt-leb}
+use Rattle.std.proofs.shelf.Tests.{or-cases, or-left, or-right, eqb-true, leb-true, eq-eqb, le-leb, lt-leb}
 use Rattle.std.specs.declared.option.Option.{Option}
 use Rattle.std.specs.declared.option.Option.the-variants.{Some, None}
 use Rattle.rules.specs.declared.words.Reason.{Reason}

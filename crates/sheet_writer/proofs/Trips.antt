@@ -1,9 +1,8 @@
 -- What is written reads as what it was written from, and what was read is written as the same bytes.
 use Prim.Native.Nat.{ℕ, _<_, _≤_}
-use mathlib.Core.Path.{_≡_, refl, sym, ap, _∙_, subst}
-use mathlib.Core.Bool.{Bool, cond}
+use mathlib.Core.Path.{_≡_, refl, sym, ap, _∙_}
 use mathlib.Core.Logic.{_⊎_, inl, inr}
-use mathlib.Core.List.{List, []}
+use mathlib.Core.List.{List}
 use native.Mathlib.Omega.{arith}
 use lib.Dec.{leb}
 use lib.ListN.{length, take}
@@ -12,9 +11,7 @@ use Rattle.std.specs.declared.option.Option.{Option}
 use Rattle.std.specs.declared.option.Option.the-variants.{Some, None}
 use Rattle.std.specs.declared.result.Result.{Result}
 use Rattle.std.specs.declared.result.Result.the-variants.{Ok, Err}
-use Rattle.rules.specs.declared.words.Reason.the-variants.{WrongLength}
 use Rattle.rules.specs.declared.words.Refusal.{Refusal}
-use Rattle.rules.specs.Words.{of-sheet}
 use Rattle.rules.specs.Meaning.{Entries, Lawful}
 use Rattle.sheet.specs.Filing.{Filing, Fitting}
 use Rattle.sheet.specs.Format.{sheet}
@@ -26,7 +23,7 @@ use Rattle.sheet.proofs.Whole.{accepts, only}
 use Rattle.sheet_writer.specs.Over.{over}
 use Rattle.sheet_writer.specs.Writing.{write-refusal, written, write-outcome, rewritten, rewrite-outcome}
 use Rattle.sheet_writer.proofs.Parts.{front}
-use Rattle.sheet_writer.proofs.Refused.{Writable, writable, refused-short, refused-not}
+use Rattle.sheet_writer.proofs.Refused.{writable, refused-short, refused-not}
 
 -- the contract of write
 pub record Trip (e : Entries) (f : Filing) (buffer : List ℕ) (r : Result ℕ Refusal) (out : List ℕ) : Type 0 where

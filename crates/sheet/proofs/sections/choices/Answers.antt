@@ -1,10 +1,8 @@
-use Prim.Native.Nat.{ℕ, _-_, _+_, _≤_}
+use Prim.Native.Nat.{ℕ, _-_, _+_}
 use mathlib.Core.Path.{_≡_, sym, ap, _∙_}
-use mathlib.Core.List.{List, [], _∷_, _++_}
 use native.Mathlib.Omega.{arith}
-use lib.ListN.{length, take, drop, getD}
+use lib.ListN.{take}
 use Rattle.std.proofs.shelf.Results.{err-from-errBy}
-use Rattle.rules.specs.declared.words.Refusal.{Refusal}
 use Rattle.sheet.specs.Reading.{choices}
 use Rattle.sheet.specs.Told.{left}
 use Rattle.sheet.proofs.Loops.{choices-next, choices-halt, choices-end}

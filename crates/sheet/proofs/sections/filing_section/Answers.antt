@@ -1,4 +1,4 @@
-use mathlib.Core.Path.{_≡_, sym}
+use mathlib.Core.Path.{sym}
 use Rattle.sheet.specs.Reading.{one, off-count, off-filed}
 use Rattle.sheet.proofs.Loops.{counted-done}
 use Rattle.sheet.proofs.sections.filing_section.Needs as need

@@ -1,4 +1,4 @@
-use mathlib.Core.Path.{_≡_, sym}
+use mathlib.Core.Path.{sym}
 use Rattle.rules.specs.Refusals.{off-places}
 use Rattle.sheet.specs.Reading.{above, two}
 use Rattle.sheet.proofs.Loops.{counted-done}

@@ -1,4 +1,4 @@
-use mathlib.Core.Path.{_≡_, sym}
+use mathlib.Core.Path.{sym}
 use Rattle.sheet.specs.Reading.{above, list}
 use Rattle.sheet.proofs.Loops.{counted-done}
 use Rattle.sheet.proofs.sections.trainees_section.Needs as need

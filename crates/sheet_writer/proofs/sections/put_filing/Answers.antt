@@ -1,11 +1,10 @@
-use Prim.Native.Nat.{ℕ, _-_}
-use mathlib.Core.Path.{_≡_, refl, sym, ap, _∙_}
+use Prim.Native.Nat.{ℕ}
+use mathlib.Core.Path.{refl, sym, ap, _∙_}
 use mathlib.Core.List.{List, _++_}
-use native.Mathlib.Omega.{arith}
-use lib.ListN.{length, take, drop}
+use lib.ListN.{length}
 use borrow.Rule.Slice.PartMut.{putMid}
 use Rattle.std.proofs.shelf.Lists.{take-rest}
-use Rattle.sheet.specs.Format.{single, pair, section}
+use Rattle.sheet.specs.Format.{pair}
 use Rattle.sheet.proofs.Sheets.{joined-single}
 use Rattle.sheet_writer.proofs.Parts.{two-parts, room-behind}
 use Rattle.sheet_writer.proofs.sections.put_filing.Needs as need

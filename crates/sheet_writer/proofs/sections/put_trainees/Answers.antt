@@ -1,9 +1,7 @@
-use Prim.Native.Nat.{ℕ, _-_}
-use mathlib.Core.Path.{_≡_, refl, sym, ap, _∙_}
-use mathlib.Core.List.{List, _++_}
+use mathlib.Core.Path.{refl, ap, _∙_}
 use lib.ListN.{length}
 use Rattle.std.specs.shelf.Lists.{joined}
-use Rattle.sheet.specs.Format.{pair, measured, section}
+use Rattle.sheet.specs.Format.{pair, measured}
 use Rattle.sheet_writer.proofs.Parts.{two-parts}
 use Rattle.sheet_writer.proofs.sections.put_trainees.Needs as need
 

@@ -1,4 +1,4 @@
-use mathlib.Core.Path.{_≡_, sym}
+use mathlib.Core.Path.{sym}
 use Rattle.sheet_writer.proofs.Refused.{writable, few-filed}
 use Rattle.sheet_writer.proofs.Trips.{trip-refused, trip-written}
 use lib.ListN.{length}

@@ -1,10 +1,9 @@
 use Prim.Native.Nat.{ℕ, _-_}
-use mathlib.Core.Path.{_≡_, sym, ap, _∙_}
+use mathlib.Core.Path.{ap, _∙_}
 use native.Mathlib.Omega.{arith}
-use lib.ListN.{length, take, drop}
+use lib.ListN.{length, drop}
 use Rattle.std.proofs.shelf.Lists.{take-rest}
 use Rattle.sheet.specs.declared.counts.Counts.{Counts}
-use Rattle.sheet.specs.Opened.{opened}
 use Rattle.sheet.proofs.Sheets.{filing-at}
 use Rattle.sheet.proofs.open_sheet.OpenSheet.filing.Needs as need
 
