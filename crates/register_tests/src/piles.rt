@@ -51,10 +51,10 @@ fn short_over_closed_over_grid() -> Result<(), Fail> {
     let mut cells = [9u8; 26];
     let mut grid = RankGrid::open(13, 2, &mut cells);
     check(taken(grid.enter(Trainee(0), &thirteen()[0..12])))?;
-    let mut closed = Closed::over(&mut grid);
+    let mut closed = Closed::new(&mut grid);
     check(refused(closed.close(Practice(13)), 8, 13))?;
     check(taken(closed.close(Practice(2))) && taken(closed.close(Practice(2))))?;
-    let mut pile = Short::over(closed, 3);
+    let mut pile = Short::new(closed, 3);
     shows_what_stood(&mut pile)?;
     places_at_the_bounds(&mut pile)?;
     shows_three_without_2(&mut pile)
@@ -68,7 +68,7 @@ fn closed_over_short_over_rows() -> Result<(), Fail> {
     }; 2];
     let mut register = RowRegister::open(13, 2, &mut rows);
     check(taken(register.enter(Trainee(0), &thirteen()[0..12])))?;
-    let mut pile = Closed::over(Short::over(Short::over(&mut register, 255), 4));
+    let mut pile = Closed::new(Short::new(Short::new(&mut register, 255), 4));
     check(taken(pile.close(Practice(2))))?;
     check(pile.longest() == 4)?;
     shows_what_stood(&mut pile)?;
