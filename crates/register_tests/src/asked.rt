@@ -1,8 +1,10 @@
 // What any register is asked.
 use rules::register::Register;
+use rules::lent::LentRoll;
 use rules::roll::Roll;
 use rules::terms::Terms;
 use rules::words::Layer;
+use rules::words::LayerPartialEq;
 use rules::words::Practice;
 use rules::words::Refusal;
 use rules::words::Trainee;

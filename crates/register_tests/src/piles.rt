@@ -1,4 +1,4 @@
-// Piles of layers.
+// Piles of layers, made in code that is generic in the register below.
 use crate::asked::*;
 use layers::closed::Closed;
 use layers::closed::ClosedRegister;
@@ -21,9 +21,8 @@ use rules::lent::LentRegister;
 use rules::lent::LentRoll;
 use rules::lent::LentTerms;
 use rules::register::Register;
-use rules::roll::Roll;
-use rules::terms::Terms;
 use rules::words::Practice;
+use rules::words::PracticePartialEq;
 use rules::words::Trainee;
 use std::test::*;
 
@@ -46,18 +45,37 @@ fn shows_what_stood<R: Register>(r: &mut R) -> Result<(), Fail> {
     check(r.position(t, Practice(3)) == Some(2) && r.position(t, Practice(4)) == None)
 }
 
-#[test]
-fn short_over_closed_over_grid() -> Result<(), Fail> {
-    let mut cells = [9u8; 26];
-    let mut grid = RankGrid::open(13, 2, &mut cells);
-    check(taken(grid.enter(Trainee(0), &thirteen()[0..12])))?;
-    let mut closed = Closed::new(&mut grid);
-    check(refused(closed.close(Practice(13)), 8, 13))?;
-    check(taken(closed.close(Practice(2))) && taken(closed.close(Practice(2))))?;
+fn closes_2<R: Register>(layer: &mut Closed<R>) -> Result<(), Fail> {
+    check(refused(layer.close(Practice(13)), 8, 13))?;
+    check(taken(layer.close(Practice(2))))?;
+    check(taken(layer.close(Practice(2))))
+}
+
+fn short_over_closed<R: Register>(below: &mut R) -> Result<(), Fail> {
+    check(taken(below.enter(Trainee(0), &thirteen()[0..12])))?;
+    let mut closed = Closed::new(below);
+    closes_2(&mut closed)?;
     let mut pile = Short::new(closed, 3);
     shows_what_stood(&mut pile)?;
     places_at_the_bounds(&mut pile)?;
     shows_three_without_2(&mut pile)
+}
+
+// Closed over Short over Short: the shorter one counts, and a number above 12 counts as 12.
+fn closed_over_shorts<R: Register>(below: &mut R) -> Result<(), Fail> {
+    check(taken(below.enter(Trainee(0), &thirteen()[0..12])))?;
+    let mut pile = Closed::new(Short::new(Short::new(below, 255), 4));
+    closes_2(&mut pile)?;
+    check(pile.longest() == 4)?;
+    shows_what_stood(&mut pile)?;
+    places_at_the_bounds(&mut pile)
+}
+
+#[test]
+fn short_over_closed_over_grid() -> Result<(), Fail> {
+    let mut cells = [9u8; 26];
+    let mut grid = RankGrid::open(13, 2, &mut cells);
+    short_over_closed(&mut grid)
 }
 
 #[test]
@@ -67,10 +85,5 @@ fn closed_over_short_over_rows() -> Result<(), Fail> {
         choices: [0; 12],
     }; 2];
     let mut register = RowRegister::open(13, 2, &mut rows);
-    check(taken(register.enter(Trainee(0), &thirteen()[0..12])))?;
-    let mut pile = Closed::new(Short::new(Short::new(&mut register, 255), 4));
-    check(taken(pile.close(Practice(2))))?;
-    check(pile.longest() == 4)?;
-    shows_what_stood(&mut pile)?;
-    places_at_the_bounds(&mut pile)
+    closed_over_shorts(&mut register)
 }

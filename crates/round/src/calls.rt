@@ -28,6 +28,7 @@ impl<R: Register> Round<R> {
     // Opens a round; no placement stands.
     pub fn over(register: R) -> Round<R>
         ensures exact { λ r. ⌜ seen (R·Roll .entries) (R·Terms .rules) r ≡ unplaced (meant (R·Roll .entries) (R·Terms .rules) register) ⌝ }
+        ensures holds { λ r. ⌜ r .register ≡ register ⌝ }
         ensures empty { λ r. ⌜ r .table .seats ≡ replicate 400 None ⌝ }
         ensures law { λ r. ⌜ Tells (meant (R·Roll .entries) (R·Terms .rules) register) [] (seen (R·Roll .entries) (R·Terms .rules) r) ⌝ }
     {
@@ -90,6 +91,7 @@ impl<R: Register> Round<R> {
     // A fullest unbeaten placement of the standing entries, which now stands, and how many it seats.
     pub fn allot(&mut self, waiting: &mut [Trainee], moves: &mut [Move]) -> Result<u16, Refusal>
         ensures exact { λ r. ⌜ Allots (seen (R·Roll .entries) (R·Terms .rules) (now (self .entry))) (length (now (waiting .entry))) (length (now (moves .entry))) r (seen (R·Roll .entries) (R·Terms .rules) (now (self .exit))) ⌝ }
+        ensures keeps { λ _. ⌜ now (self .exit) .register ≡ now (self .entry) .register ⌝ }
         ensures seats { λ r. ⌜ Seats-given r (seen (R·Roll .entries) (R·Terms .rules) (now (self .exit))) ⌝ }
         ensures slots { λ _. ⌜ (enough (R·Roll .entries (now (self .entry) .register)) (length (now (waiting .entry))) (length (now (moves .entry))) ≡ false → (now (waiting .exit) ≡ now (waiting .entry)) × (now (moves .exit) ≡ now (moves .entry))) ⌝ }
         ensures law { λ r. ⌜ Goes-on (seen (R·Roll .entries) (R·Terms .rules) (now (self .entry))) (allots (length (now (waiting .entry))) (length (now (moves .entry))) (given r (seen (R·Roll .entries) (R·Terms .rules) (now (self .exit))))) (seen (R·Roll .entries) (R·Terms .rules) (now (self .exit))) ⌝ }

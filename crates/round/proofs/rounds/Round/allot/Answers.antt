@@ -25,6 +25,7 @@ returns-in-Break-found g c =
     subst (λ x. Allots s w k x s) (sym is) (refused-stays s w k (c .in-Break-found .field-0 .0) (c .in-Break-found .ensures tt .finds)) in
     record {
       exact = step;
+      keeps = refl;
       seats = seats-given s w k (c .from-residual .result) s step;
       slots = c .in-Break-found .ensures tt .slots;
       law = goes-on s (allots w k (given (c .from-residual .result) s)) s (c .from-residual .result, step, refl);
@@ -52,6 +53,7 @@ returns g c =
     (found-stands before w k f finds)) in
     record {
       exact = step;
+      keeps = refl;
       seats = seats-given before w k (Ok n) after step;
       slots = c .in-Continue-found .ensures tt .slots;
       law = goes-on before (allots w k (given (Ok n) after)) after (Ok n, step, refl);
