@@ -1,6 +1,6 @@
 // What any register is asked.
-use rules::register::Register;
 use rules::lent::LentRoll;
+use rules::register::Register;
 use rules::roll::Roll;
 use rules::terms::Terms;
 use rules::words::Layer;

@@ -45,37 +45,62 @@ fn shows_what_stood<R: Register>(r: &mut R) -> Result<(), Fail> {
     check(r.position(t, Practice(3)) == Some(2) && r.position(t, Practice(4)) == None)
 }
 
+// All that the top of a pile with lists of 3 and without practice 2 is asked.
+fn answers_for_three<R: Register>(r: &mut R) -> Result<(), Fail> {
+    shows_what_stood(r)?;
+    places_at_the_bounds(r)?;
+    shows_three_without_2(r)
+}
+
 fn closes_2<R: Register>(layer: &mut Closed<R>) -> Result<(), Fail> {
     check(refused(layer.close(Practice(13)), 8, 13))?;
     check(taken(layer.close(Practice(2))))?;
     check(taken(layer.close(Practice(2))))
 }
 
-fn short_over_closed<R: Register>(below: &mut R) -> Result<(), Fail> {
-    check(taken(below.enter(Trainee(0), &thirteen()[0..12])))?;
-    let mut closed = Closed::new(below);
-    closes_2(&mut closed)?;
-    let mut pile = Short::new(closed, 3);
-    shows_what_stood(&mut pile)?;
-    places_at_the_bounds(&mut pile)?;
-    shows_three_without_2(&mut pile)
+// Practice 2 is closed.
+fn without_2<R: Register>(below: R) -> Closed<R> {
+    let mut layer = Closed::new(below);
+    let _ = layer.close(Practice(2));
+    layer
 }
 
-// Closed over Short over Short: the shorter one counts, and a number above 12 counts as 12.
+fn enters_twelve<R: Register>(r: &mut R) -> Result<(), Fail> {
+    check(taken(r.enter(Trainee(0), &thirteen()[0..12])))
+}
+
+fn closing<R: Register>(below: &mut R) -> Result<(), Fail> {
+    let mut layer = Closed::new(below);
+    closes_2(&mut layer)
+}
+
+fn short_over_closed<R: Register>(below: &mut R) -> Result<(), Fail> {
+    let mut pile = Short::new(without_2(below), 3);
+    answers_for_three(&mut pile)
+}
+
+// The shorter of two Shorts counts, and a number above 12 counts as 12.
 fn closed_over_shorts<R: Register>(below: &mut R) -> Result<(), Fail> {
-    check(taken(below.enter(Trainee(0), &thirteen()[0..12])))?;
-    let mut pile = Closed::new(Short::new(Short::new(below, 255), 4));
-    closes_2(&mut pile)?;
-    check(pile.longest() == 4)?;
-    shows_what_stood(&mut pile)?;
-    places_at_the_bounds(&mut pile)
+    let mut pile = without_2(Short::new(Short::new(below, 255), 4));
+    shows_what_stood(&mut pile)
+}
+
+fn on_grid<R: Register>(r: &mut R) -> Result<(), Fail> {
+    enters_twelve(r)?;
+    closing(r)?;
+    short_over_closed(r)
+}
+
+fn on_rows<R: Register>(r: &mut R) -> Result<(), Fail> {
+    enters_twelve(r)?;
+    closed_over_shorts(r)
 }
 
 #[test]
 fn short_over_closed_over_grid() -> Result<(), Fail> {
     let mut cells = [9u8; 26];
     let mut grid = RankGrid::open(13, 2, &mut cells);
-    short_over_closed(&mut grid)
+    on_grid(&mut grid)
 }
 
 #[test]
@@ -85,5 +110,5 @@ fn closed_over_short_over_rows() -> Result<(), Fail> {
         choices: [0; 12],
     }; 2];
     let mut register = RowRegister::open(13, 2, &mut rows);
-    closed_over_shorts(&mut register)
+    on_rows(&mut register)
 }
