@@ -98,9 +98,6 @@ admitted m t list h =
       choices = b .1;
     }
 
-pub none-from-admitted : (m : Meaning) (t : ℕ) (list : List ℕ) → Admitted m t list → entry-refusal m t list ≡ None
-none-from-admitted m t list a = by-choices m t list (a .trainee) (a .long) ∙ a .choices
-
 -- what the check of an entry lets through is strict
 pub strict-from-none : (m : Meaning) (t : ℕ) (list : List ℕ) → m .rules .longest ≤ 12 → entry-refusal m t list ≡ None → Strict (practices (m .entries)) list
 strict-from-none m t list most h =
@@ -120,13 +117,6 @@ choices-wider m n w earlier (p ∷ ps) h =
     rw (w p (a .0), b .0) (choices-wider m n w (earlier ++ p ∷ []) ps (b .1))
 
 -- a change of places
-module _ (m : Meaning) (p n : ℕ) where
-  pub no-practice : practices (m .entries) ≤ p → places-refusal m p n ≡ Some (of-register NoSuchPractice p)
-  no-practice h = rw (le-ltb p (practices (m .entries)) h)
-
-  pub by-places : p < practices (m .entries) → places-refusal m p n ≡ because (off-places n) p
-  by-places h = rw (lt-ltb p (practices (m .entries)) h)
-
 because-none : (o : Option Reason) (p : ℕ) → because o p ≡ None → o ≡ None
 because-none None p h = refl
 because-none (Some r) p h = let z : _≡_ {A = ℕ} 0 1 = cc in absurd (omega arith)
