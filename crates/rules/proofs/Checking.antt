@@ -1,10 +1,9 @@
 -- The check of an entry, step by step, and what it tells.
-use Rattle.std.proofs.Common.{◌≡◌, ℕ, zero, suc, ◌+◌, ◌<◌, ◌≤◌, Bool, true, false, cond, ltb, leb, ◌⊎◌, List, [], ◌∷◌, ◌++◌, length, get_or, take, drop, Some, None, Option, sym, refl, ap, ◌∙◌, inl, inr, arith}
+use Rattle.std.proofs.Common.{◌≡◌, ℕ, zero, suc, ◌+◌, ◌<◌, ◌≤◌, Bool, true, false, cond, ltb, leb, List, [], ◌∷◌, ◌++◌, length, get_or, take, drop, Some, None, Option, sym, refl, ap, ◌∙◌, arith}
 use Rattle.std.proofs.lemmas.List.{drop_more, drop_all, take_more, length-take-le, append_assoc, get_or_append_left, length-append}
 use Rattle.std.proofs.lemmas.Bool.{lt-ltb, le-ltb, le-leb, lt-leb, ltb-true, leb-true, false≢true}
-use Rattle.rules.specs.declared.words.Refusal.{Refusal}
 use Rattle.rules.specs.declared.words.Reason.{Reason}
-use Rattle.rules.specs.declared.words.Reason.TheVariants.{CountOutOfBounds, PlacesOutOfBounds, PracticeNotOffered, Repeated, NoSuchTrainee, NoSuchPractice}
+use Rattle.rules.specs.declared.words.Reason.TheVariants.{CountOutOfBounds, PracticeNotOffered, Repeated, NoSuchTrainee}
 use Rattle.rules.specs.Words.{of_register}
 use Rattle.rules.specs.Meaning.{Meaning, Strict, trainees, practices, is_open}
 use Rattle.rules.specs.Questions.{listed}

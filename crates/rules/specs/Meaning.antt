@@ -1,5 +1,5 @@
 -- What a roll and a register mean, and the law of a roll.
-use Rattle.std.specs.Prelude.{◌≡◌, ℕ, ◌<◌, ◌≤◌, Bool, false, cond, List, [], ◌∷◌, length, ◌≢◌, nat_lt, slice_index, slice_index_or, slice_set}
+use Rattle.std.specs.Prelude.{ℕ, ◌<◌, ◌≤◌, Bool, false, cond, List, [], length, ◌≢◌, nat_lt, slice_index, slice_index_or, slice_set}
 
 -- the places of each practice, and the list of each trainee, the most wanted practice first
 pub record Entries : Type 0 where

@@ -1,5 +1,5 @@
 -- The table of refusals of every register and layer: what an entry is refused with, and what a call does then.
-use Rattle.std.specs.Prelude.{◌≡◌, ℕ, Bool, true, false, cond, List, [], ◌∷◌, ◌++◌, length, Some, None, Ok, Err, Option, Result, nat_le, nat_lt}
+use Rattle.std.specs.Prelude.{ℕ, cond, List, [], ◌∷◌, ◌++◌, length, Some, None, Ok, Err, Option, Result, nat_le, nat_lt}
 use Rattle.rules.specs.declared.words.Refusal.{Refusal}
 use Rattle.rules.specs.declared.words.Reason.{Reason}
 use Rattle.rules.specs.declared.words.Reason.TheVariants.{CountOutOfBounds, PlacesOutOfBounds, PracticeNotOffered, Repeated, NoSuchTrainee, NoSuchPractice}

@@ -1,4 +1,6 @@
 // The words, the meaning of a roll and of a register, and the refusals that all layers share.
+#![tactic(auto)]
+
 pub mod entry;
 pub mod lent;
 pub mod register;

@@ -1,4 +1,4 @@
-use Rattle.std.proofs.Common.{◌≡◌, ℕ, ◌<◌, ◌≤◌, true, false, length, get_or, take, Some, sym, ap, ◌∙◌, arith}
+use Rattle.std.proofs.Common.{◌≡◌, ◌<◌, ◌≤◌, true, false, length, get_or, take, Some, sym, ap, ◌∙◌, arith}
 use Rattle.rules.specs.Meaning.{meant, is_open, trainees}
 use Rattle.rules.specs.Questions.{numbers, listed}
 use Rattle.rules.proofs.Numbers.{number, length_numbers, front_numbers}
@@ -17,10 +17,10 @@ returns-then-list-longest g c =
     let xs = numbers c.args.list.now in
     let h : c.args.t.0 < trainees m.entries = omega (arith, c.trainees.ensures) in
     let l : m.rules.longest < length xs = omega (arith, c.longest-longest.ensures, length_numbers c.args.list.now) in
-    ap Some (c.of-register-then-list-longest.ensures ∙ rw c.longest-longest.ensures) ∙ sym (too_long m c.args.t.0 xs h l)
+    ap Some (c.of_register-then-list-longest.ensures ∙ rw c.longest-longest.ensures) ∙ sym (too_long m c.args.t.0 xs h l)
 
-pub returns-then-not-is-open : goal.returns-then-not-is-open
-returns-then-not-is-open g c =
+pub returns-then-not-is_open : goal.returns-then-not-is_open
+returns-then-not-is_open g c =
     let m = meant g.R.Roll.entries g.R.Terms.rules c.args.r.now in
     let list = c.args.list.now in
     let xs = numbers list in
@@ -28,11 +28,11 @@ returns-then-not-is-open g c =
     let h : c.args.t.0 < trainees m.entries = omega (arith, c.trainees.ensures) in
     let l : length xs ≤ m.rules.longest = omega (arith, c.longest-longest.ensures, length_numbers list) in
     let il : i < length xs = omega (arith, length_numbers list) in
-    let shut : is_open m (get_or xs i 0) ≡ false = rw (number list i c.loop-i-test.true) (sym c.if-not-is-open.ensures) in
-    ap Some c.of-register-then-not-is-open.ensures ∙ sym (by_choices m c.args.t.0 xs h l ∙ c.loop-i.invariant ∙ step_shut m xs i il shut)
+    let shut : is_open m (get_or xs i 0) ≡ false = rw (number list i c.loop-i-test.true) (sym c.if-not-is_open.ensures) in
+    ap Some c.of_register-then-not-is_open.ensures ∙ sym (by_choices m c.args.t.0 xs h l ∙ c.loop-i.invariant ∙ step_shut m xs i il shut)
 
-pub returns-then-is-listed : goal.returns-then-is-listed
-returns-then-is-listed g c =
+pub returns-then-is_listed : goal.returns-then-is_listed
+returns-then-is_listed g c =
     let m = meant g.R.Roll.entries g.R.Terms.rules c.args.r.now in
     let list = c.args.list.now in
     let xs = numbers list in
@@ -40,9 +40,9 @@ returns-then-is-listed g c =
     let h : c.args.t.0 < trainees m.entries = omega (arith, c.trainees.ensures) in
     let l : length xs ≤ m.rules.longest = omega (arith, c.longest-longest.ensures, length_numbers list) in
     let il : i < length xs = omega (arith, length_numbers list) in
-    let shows : is_open m (get_or xs i 0) ≡ true = rw (number list i c.loop-i-test.true) (sym c.if-not-is-open.ensures) in
-    let again : listed (take i xs) (get_or xs i 0) ≡ true = rw (number list i c.loop-i-test.true, ← front_numbers list i) (sym c.if-is-listed.ensures) in
-    ap Some c.of-register-then-is-listed.ensures ∙ sym (by_choices m c.args.t.0 xs h l ∙ c.loop-i.invariant ∙ step_again m xs i il shows again)
+    let shows : is_open m (get_or xs i 0) ≡ true = rw (number list i c.loop-i-test.true) (sym c.if-not-is_open.ensures) in
+    let again : listed (take i xs) (get_or xs i 0) ≡ true = rw (number list i c.loop-i-test.true, ← front_numbers list i) (sym c.if-is_listed.ensures) in
+    ap Some c.of_register-then-is_listed.ensures ∙ sym (by_choices m c.args.t.0 xs h l ∙ c.loop-i.invariant ∙ step_again m xs i il shows again)
 
 pub loop-i-preserved : goal.loop-i-preserved
 loop-i-preserved g c =
@@ -51,8 +51,8 @@ loop-i-preserved g c =
     let xs = numbers list in
     let i = c.loop-i.i in
     let il : i < length xs = omega (arith, length_numbers list) in
-    let shows : is_open m (get_or xs i 0) ≡ true = rw (number list i c.loop-i-test.true) (sym c.if-not-is-open.ensures) in
-    let once : listed (take i xs) (get_or xs i 0) ≡ false = rw (number list i c.loop-i-test.true, ← front_numbers list i) (sym c.if-is-listed.ensures) in
+    let shows : is_open m (get_or xs i 0) ≡ true = rw (number list i c.loop-i-test.true) (sym c.if-not-is_open.ensures) in
+    let once : listed (take i xs) (get_or xs i 0) ≡ false = rw (number list i c.loop-i-test.true, ← front_numbers list i) (sym c.if-is_listed.ensures) in
     c.loop-i.invariant ∙ step_on m xs i il shows once
 
 pub returns : goal.returns
