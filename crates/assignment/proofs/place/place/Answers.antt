@@ -21,6 +21,6 @@ returns c =
     let waiting = length c.args.waiting.now in
     let moves = length c.args.moves.now in
     record {
-      answer = answer_yes T waiting moves c.place-all.result c.if-waiting-table.false c.if-moves-table.false c.place-all.ensures;
+      answer = answer_yes T waiting moves c.place_all.result c.if-waiting-table.false c.if-moves-table.false c.place_all.ensures;
       slots = λ e. absurd (both_ways (enough T waiting moves) e (enough_yes T waiting moves c.if-waiting-table.false c.if-moves-table.false));
     }

@@ -6,8 +6,8 @@ use Rattle.assignment.proofs.prices.gap.Goals as goal
 pub bounds-state-p : goal.bounds-state-p
 bounds-state-p c = choice_below c.args.table.now c.args.t c.args.i c.requires.known c.requires.within
 
-pub overflow-sub-result : goal.overflow-sub-result
-overflow-sub-result c = choice_priced c.args.table.now c.args.state.now c.args.t c.requires.ready c.requires.known c.args.i c.requires.within
+pub overflow_sub-result : goal.overflow_sub-result
+overflow_sub-result c = choice_priced c.args.table.now c.args.state.now c.args.t c.requires.ready c.requires.known c.args.i c.requires.within
 
 pub returns : goal.returns
 returns c = omega (arith, choice_priced c.args.table.now c.args.state.now c.args.t c.requires.ready c.requires.known c.args.i c.requires.within)

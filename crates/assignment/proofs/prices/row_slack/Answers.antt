@@ -7,8 +7,8 @@ use Rattle.assignment.proofs.Tables.{choice_below}
 use Rattle.assignment.proofs.prices.row_slack.Goals as goal
 use Rattle.assignment.proofs.prices.row_slack.Goals.{then-not-reached-row, else-not-reached-row}
 
-pub overflow-sub-state : goal.overflow-sub-state
-overflow-sub-state c = none_priced c.args.table.now c.args.state.now c.args.t c.requires.ready c.requires.known
+pub overflow_sub-state : goal.overflow_sub-state
+overflow_sub-state c = none_priced c.args.table.now c.args.state.now c.args.t c.requires.ready c.requires.known
 
 pub bounds-reached-row : goal.bounds-reached-row
 bounds-reached-row c = choice_below c.args.table.now c.args.t c.loop-i.i c.requires.known c.loop-i-test.true

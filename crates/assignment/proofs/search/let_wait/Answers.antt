@@ -10,7 +10,7 @@ use Rattle.assignment.specs.States.{seat_of}
 use Rattle.assignment.proofs.Counts.{many_front, many_more}
 use Rattle.assignment.proofs.Queues.{queued_none, queued_skip, queued_more}
 use Rattle.assignment.proofs.search.let_wait.Goals as goal
-use Rattle.assignment.proofs.search.let_wait.Goals.{then-is-at, else-is-at}
+use Rattle.assignment.proofs.search.let_wait.Goals.{then-is_at, else-is_at}
 
 pub loop-t-init : goal.loop-t-init
 loop-t-init c = (queued_none c.args.state.now c.args.p.0 (records c.args.waiting.now), refl)
@@ -23,9 +23,9 @@ loop-t-preserved c =
     let old = records c.args.waiting.now in
     let q = c.loop-t.waiting in
     let h = c.loop-t.invariant.0 in
-    elim c.if-is-at.branch [
-      | then-is-at w ↦
-          let on = sym w.if-is-at.ensures in
+    elim c.if-is_at.branch [
+      | then-is_at w ↦
+          let on = sym w.if-is_at.ensures in
           let free : length (records q) < room q =
           omega (
             arith,
@@ -40,9 +40,9 @@ loop-t-preserved c =
             queued_more S t p old (records q) h _ (records w.add.new.self) on refl (added (records q) (records w.add.new.self) (room q) _ w.add.result w.add.ensures.outcome free),
             w.add.ensures.room ∙ c.loop-t.invariant.1,
           )
-      | else-is-at w ↦
+      | else-is_at w ↦
           subst (λ (z : WorkList Trainee). Queued S (t + 1) p old (records z) × (room z ≡ room c.args.waiting.now)) (sym w.waiting-is)
-          (queued_skip S t p old (records q) h (sym w.if-is-at.ensures), c.loop-t.invariant.1)
+          (queued_skip S t p old (records q) h (sym w.if-is_at.ensures), c.loop-t.invariant.1)
     ]
 
 pub returns : goal.returns

@@ -25,7 +25,7 @@ returns-then-state-p c =
       explored = s.explored;
       grown = grown_refl T S (progress c.args.moves.now c.args.waiting.now c.args.reached.now);
       probed = record {
-        tight = c.is-tight.ensures.yes c.if-not-is-tight.false;
+        tight = c.is_tight.ensures.yes c.if-not-is_tight.false;
         free = (T.known (c.args.t, c.args.i) (omega (arith, s.early, s.ready.next), c.requires.within), c.if-state-p.true);
       };
     }
@@ -55,7 +55,7 @@ returns c =
     let full : count S p ≡ capacity T p = omega (arith, c.if-state-p.false, s.ready.sound.fits p l) in
     let R = progress c.args.moves.now c.args.waiting.now c.args.reached.now in
     let R' = progress c.note.new.moves c.note.new.waiting c.note.new.reached in
-    let tight = c.is-tight.ensures.yes c.if-not-is-tight.false in
+    let tight = c.is_tight.ensures.yes c.if-not-is_tight.false in
     record {
       explored = explored_note T S R R' _ c.note.ensures s.ready s.explored l c.if-reached-p.false tight full s.early refl s.reached;
       grown = grown_note T S R R' _ c.note.ensures s.ready s.explored l c.if-reached-p.false tight full s.early refl s.reached;

@@ -30,12 +30,12 @@ scan-requires c =
     let S = c.args.state.now in
     let R = progress c.loop-next.moves c.loop-next.waiting c.loop-next.reached in
     let x = c.in-Some.next in
-    let w = c.take-oldest.new.self in
+    let w = c.take_oldest.new.self in
     let e = oldest_some R.queue (records w) x c.in-Some.ensures.outcome in
-    let n = next_waits T S R x (records w) (room w) c.loop-next.invariant.0 e c.take-oldest.ensures.room in
+    let n = next_waits T S R x (records w) (room w) c.loop-next.invariant.0 e c.take_oldest.ensures.room in
     record {
       ready = c.requires.ready;
-      explored = explored_next T S R x (records w) (room w) c.loop-next.invariant.0 e c.take-oldest.ensures.room;
+      explored = explored_next T S R x (records w) (room w) c.loop-next.invariant.0 e c.take_oldest.ensures.room;
       early = n.0;
       reached = n.1;
     }
@@ -46,9 +46,9 @@ returns-in-Some-scan c =
     let S = c.args.state.now in
     let R = progress c.loop-next.moves c.loop-next.waiting c.loop-next.reached in
     let x = c.in-Some.next in
-    let w = c.take-oldest.new.self in
+    let w = c.take_oldest.new.self in
     let e = oldest_some R.queue (records w) x c.in-Some.ensures.outcome in
-    let n = next_waits T S R x (records w) (room w) c.loop-next.invariant.0 e c.take-oldest.ensures.room in
+    let n = next_waits T S R x (records w) (room w) c.loop-next.invariant.0 e c.take_oldest.ensures.room in
     record {
       explored = c.scan.ensures.explored;
       sought = record {
@@ -64,7 +64,7 @@ loop-next-smaller c =
     let T = c.args.table.now in
     let S = c.args.state.now in
     let q = records c.loop-next.waiting in
-    let w = c.take-oldest.new.self in
+    let w = c.take_oldest.new.self in
     omega (
       arith,
       ap length (oldest_some q (records w) c.in-Some.next c.in-Some.ensures.outcome),
@@ -80,18 +80,18 @@ loop-next-preserved c =
     let R = progress c.loop-next.moves c.loop-next.waiting c.loop-next.reached in
     let R' = progress c.scan.new.moves c.scan.new.waiting c.scan.new.reached in
     let x = c.in-Some.next in
-    let w = c.take-oldest.new.self in
+    let w = c.take_oldest.new.self in
     let e = oldest_some R.queue (records w) x c.in-Some.ensures.outcome in (
       c.scan.ensures.explored,
-      covered_next T S R x (records w) (room w) c.loop-next.invariant.0 e c.take-oldest.ensures.room R' c.loop-next.invariant.1 c.scan.ensures.grown c.in-default-scan.ensures.scanned,
+      covered_next T S R x (records w) (room w) c.loop-next.invariant.0 e c.take_oldest.ensures.room R' c.loop-next.invariant.1 c.scan.ensures.grown c.in_default-scan.ensures.scanned,
     )
 
 pub returns : goal.returns
 returns c =
     let q = records c.loop-next.waiting in
-    let e : q ≡ [] = oldest_none q (records c.take-oldest.new.self) c.in-default.ensures.outcome in
+    let e : q ≡ [] = oldest_none q (records c.take_oldest.new.self) c.in_default.ensures.outcome in
     record {
       explored = subst (λ (z : WorkList Trainee). Explored c.args.table.now c.args.state.now (progress c.loop-next.moves z c.loop-next.reached))
-          (sym (c.take-oldest.ensures.kept c.in-default.is)) c.loop-next.invariant.0;
+          (sym (c.take_oldest.ensures.kept c.in_default.is)) c.loop-next.invariant.0;
       sought = stuck_done c.args.table.now c.args.state.now (progress c.loop-next.moves c.loop-next.waiting c.loop-next.reached) c.loop-next.invariant.1 e;
     }
