@@ -5,6 +5,6 @@ use Rattle.allotment.proofs.bytes.write_seats.Goals as goal
 
 pub loop-t-preserved : goal.loop-t-preserved
 loop-t-preserved c =
-    ap (λ xs. set xs c.loop-t.t c.byte-of.result) c.loop-t.invariant ∙
-    write_more (seating c.args.seats.now) c.args.buffer.now c.loop-t.t c.byte-of.result (omega arith)
-    c.byte-of.ensures
+    ap (λ xs. set xs c.loop-t.t c.byte_of.result) c.loop-t.invariant ∙
+    write_more (seating c.args.seats.now) c.args.buffer.now c.loop-t.t c.byte_of.result (omega arith)
+    c.byte_of.ensures

@@ -8,26 +8,26 @@ use Rattle.allotment.proofs.Answering.{Allots, allots_refused, found_decided, al
 use Rattle.allotment.proofs.Deciding.{seats_below}
 use Rattle.allotment.proofs.calls.allot.Goals as goal
 
-pub returns-in-err-found : goal.returns-in-err-found
-returns-in-err-found g c =
+pub returns-in_err-found : goal.returns-in_err-found
+returns-in_err-found g c =
     let e : Entries = g.R.Roll.entries c.args.roll.now in
     let w : ℕ = length c.args.waiting.now in
     let m : ℕ = length c.args.moves.now in
-    let p = err_from_is_err_and c.from-residual.result c.from-residual.ensures.1 in
+    let p = err_from_is_err_and c.from_residual.result c.from_residual.ensures.1 in
     let l : trainees e ≤ length c.args.seats.now = omega (arith, c.trainees-n.ensures, c.if-seats-n.false) in
-    let is : c.from-residual.result ≡ Err c.in-err-found.field-0.0 = p.1 ∙ ap Err p.2 in
+    let is : c.from_residual.result ≡ Err c.in_err-found.field-0.0 = p.1 ∙ ap Err p.2 in
     record {
       allots =
           subst (λ r. Allots e w m c.args.seats.now r c.args.seats.now) (sym is)
-          (allots_refused e w m c.args.seats.now c.in-err-found.field-0.0 l c.in-err-found.ensures.finds);
-      slots = λ k. c.in-err-found.ensures.slots (cramped_slots e w m c.args.seats.now l k);
+          (allots_refused e w m c.args.seats.now c.in_err-found.field-0.0 l c.in_err-found.ensures.finds);
+      slots = λ k. c.in_err-found.ensures.slots (cramped_slots e w m c.args.seats.now l k);
     }
 
-pub write-seats-requires : goal.write-seats-requires
-write-seats-requires g c =
+pub write_seats-requires : goal.write_seats-requires
+write_seats-requires g c =
     let e : Entries = g.R.Roll.entries c.args.roll.now in
-    let f : Found = c.in-ok-found.found in
-    let d = found_decided e (length c.args.waiting.now) (length c.args.moves.now) f c.in-ok-found.ensures.finds in
+    let f : Found = c.in_ok-found.found in
+    let d = found_decided e (length c.args.waiting.now) (length c.args.moves.now) f c.in_ok-found.ensures.finds in
     record {
       known = search rules;
       room = c.if-seats-n.false;
@@ -37,12 +37,12 @@ write-seats-requires g c =
 pub returns : goal.returns
 returns g c =
     let e : Entries = g.R.Roll.entries c.args.roll.now in
-    let f : Found = c.in-ok-found.found in
+    let f : Found = c.in_ok-found.found in
     let w : ℕ = length c.args.waiting.now in
     let m : ℕ = length c.args.moves.now in
     record {
       allots =
-          allots_found e w m c.args.seats.now c.write-seats.new.buffer f (omega (arith, c.trainees-n.ensures, c.if-seats-n.false)) c.in-ok-found.ensures.finds
-          (c.write-seats.ensures ∙ ap (λ n. written n (seating f.seats) c.args.seats.now) c.trainees-n.ensures);
-      slots = λ k. c.in-ok-found.ensures.slots (cramped_slots e w m c.args.seats.now (omega (arith, c.trainees-n.ensures, c.if-seats-n.false)) k);
+          allots_found e w m c.args.seats.now c.write_seats.new.buffer f (omega (arith, c.trainees-n.ensures, c.if-seats-n.false)) c.in_ok-found.ensures.finds
+          (c.write_seats.ensures ∙ ap (λ n. written n (seating f.seats) c.args.seats.now) c.trainees-n.ensures);
+      slots = λ k. c.in_ok-found.ensures.slots (cramped_slots e w m c.args.seats.now (omega (arith, c.trainees-n.ensures, c.if-seats-n.false)) k);
     }

@@ -32,14 +32,14 @@ returns-in-Some g c =
     and_from (eqb a (trainees e)) (leb (trainees e) b) (eq-eqb a (trainees e) (c.if-offered-n.false ∙ c.trainees-n.ensures))
     (le-leb (trainees e) b (omega (arith, c.if-rival-n.false, c.trainees-n.ensures)))
     )
-    c.in-Some.t c.of-round-in-Some.result c.in-Some.ensures c.of-round-in-Some.ensures
+    c.in-Some.t c.of_round-in-Some.result c.in-Some.ensures c.of_round-in-Some.ensures
 
-pub challenge-in-requires : goal.challenge-in-requires
-challenge-in-requires g c =
+pub challenge_in-requires : goal.challenge_in-requires
+challenge_in-requires g c =
     let e : Entries = g.R.Roll.entries c.args.roll.now in
     let M : Placement = offered_by c.args.offered.now in
     record {
       lawful = subst Lawful (sym c.read.ensures) (g.R.Roll.lawful c.args.roll.now);
-      fits = subst (λ x. Feasible x M) (sym c.read.ensures) (fitting_feasible e M (sym c.in-default.ensures));
+      fits = subst (λ x. Feasible x M) (sym c.read.ensures) (fitting_feasible e M (sym c.in_default.ensures));
       room = omega (arith, c.if-rival-n.false, c.trainees-n.ensures, ap trainees c.read.ensures);
     }

@@ -11,17 +11,17 @@ use Rattle.allotment.proofs.Answering.{answer_ok}
 use Rattle.allotment.proofs.Tabling.{heaviest_tabled}
 use Rattle.allotment.proofs.challenging.challenge_with.Goals as goal
 
-pub write-rival-requires : goal.write-rival-requires
-write-rival-requires c =
+pub write_rival-requires : goal.write_rival-requires
+write_rival-requires c =
     let e : Entries = entries c.args.lists.now in
     let M : Placement = offered_by c.args.offered.now in
-    let T : Table = c.table-of-table.result in
+    let T : Table = c.table_of-table.result in
     let f : Placed = c.unwrap-placed.result in
     let best : Best T f =
     (answer_ok T (enough T (length c.args.waiting.now) (length c.args.moves.now)) c.place.result f c.place.ensures.answer c.unwrap-placed.ensures).1 in
     record {
       lawful = c.requires.lawful;
       fits = c.requires.fits;
-      heaviest = heaviest_tabled e (ballot e M) T (seating f.seats) c.table-of-table.ensures best.heaviest;
+      heaviest = heaviest_tabled e (ballot e M) T (seating f.seats) c.table_of-table.ensures best.heaviest;
       room = c.requires.room;
     }

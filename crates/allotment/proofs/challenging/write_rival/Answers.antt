@@ -9,8 +9,8 @@ use Rattle.allotment.proofs.Copying.{trainees_in}
 use Rattle.allotment.proofs.Deciding.{seats_below, ballots_most, ballots_least, strongest_heaviest}
 use Rattle.allotment.proofs.challenging.write_rival.Goals as goal
 
-pub write-seats-requires : goal.write-seats-requires
-write-seats-requires c =
+pub write_seats-requires : goal.write_seats-requires
+write_seats-requires c =
     let L : Lists = c.args.lists.now in
     record {
       known = omega (arith, L.few, c.told-seats);
@@ -18,24 +18,24 @@ write-seats-requires c =
       below = λ t l. seats_below (entries L) (seating c.args.seats.now) c.requires.lawful c.requires.heaviest.feasible t (omega (arith, trainees_in L));
     }
 
-pub overflow-sub-result : goal.overflow-sub-result
-overflow-sub-result c =
+pub overflow_sub-result : goal.overflow_sub-result
+overflow_sub-result c =
     let L : Lists = c.args.lists.now in
     omega (
       arith,
       trainees_in L,
-      c.whole-weight-whole.ensures,
+      c.whole_weight-whole.ensures,
       ballots_least (entries L) (offered_by c.args.offered.now) (seating c.args.seats.now) c.requires.fits c.requires.heaviest,
     )
 
-pub overflow-cast-result : goal.overflow-cast-result
-overflow-cast-result c =
+pub overflow_cast-result : goal.overflow_cast-result
+overflow_cast-result c =
     let L : Lists = c.args.lists.now in
     omega (
       arith,
       trainees_in L,
       L.few,
-      c.whole-weight-whole.ensures,
+      c.whole_weight-whole.ensures,
       ballots_most (entries L) (offered_by c.args.offered.now) (seating c.args.seats.now),
     )
 
@@ -47,7 +47,7 @@ returns c =
     let N : Placement = seating c.args.seats.now in
     record {
       strongest =
-          subst (λ n. Strongest e M (c.whole-weight-whole.result - n) N) (trainees_in L)
-          (strongest_heaviest e M N c.whole-weight-whole.result c.requires.fits c.requires.heaviest c.whole-weight-whole.ensures);
-      written = c.write-seats.ensures ∙ ap (λ n. written n N c.args.rival.now) (sym (trainees_in L));
+          subst (λ n. Strongest e M (c.whole_weight-whole.result - n) N) (trainees_in L)
+          (strongest_heaviest e M N c.whole_weight-whole.result c.requires.fits c.requires.heaviest c.whole_weight-whole.ensures);
+      written = c.write_seats.ensures ∙ ap (λ n. written n N c.args.rival.now) (sym (trainees_in L));
     }

@@ -16,8 +16,8 @@ firsts L t = first_choice (list_of (entries L) t)
 pub loop-t-init : goal.loop-t-init
 loop-t-init c = counted_none (firsts c.args.lists.now)
 
-pub count-in-requires : goal.count-in-requires
-count-in-requires c =
+pub count_in-requires : goal.count_in-requires
+count_in-requires c =
     let L : Lists = c.args.lists.now in
     record {
       below = first_few (entries L) c.requires c.loop-t.t (stored c.first.result) (c.first.ensures ∙ ap first_choice (sym (list_in L c.loop-t.t c.loop-t-test.true)));
@@ -27,8 +27,8 @@ count-in-requires c =
 pub loop-t-preserved : goal.loop-t-preserved
 loop-t-preserved c =
     let L : Lists = c.args.lists.now in
-    counted_more c.loop-t.t (firsts L) (stored c.first.result) c.loop-t.counts c.count-in.new.counts
-    (c.first.ensures ∙ ap first_choice (sym (list_in L c.loop-t.t c.loop-t-test.true))) c.loop-t.invariant c.count-in.ensures
+    counted_more c.loop-t.t (firsts L) (stored c.first.result) c.loop-t.counts c.count_in.new.counts
+    (c.first.ensures ∙ ap first_choice (sym (list_in L c.loop-t.t c.loop-t-test.true))) c.loop-t.invariant c.count_in.ensures
 
 pub returns : goal.returns
 returns c =

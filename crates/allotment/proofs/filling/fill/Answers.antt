@@ -13,11 +13,11 @@ loop-t-preserved g c =
     let L : Lists = c.args.lists.now in
     let e : Entries = entries L in
     let w : Weighing = by_lists e (g.W.Weigh.weighs c.args.weighing.now) in
-    filled_more e w c.loop-t.t c.loop-t.table c.row-of.result c.add.result c.add.new.self c.requires.lawful
+    filled_more e w c.loop-t.t c.loop-t.table c.row_of.result c.add.result c.add.new.self c.requires.lawful
     (omega (arith, trainees_in L)) c.loop-t.invariant
     (
-    subst (λ l. Weighed l (g.W.Weigh.weighs c.args.weighing.now c.loop-t.t l) c.row-of.result)
-    (sym (list_in L c.loop-t.t c.loop-t-test.true)) c.row-of.ensures
+    subst (λ l. Weighed l (g.W.Weigh.weighs c.args.weighing.now c.loop-t.t l) c.row_of.result)
+    (sym (list_in L c.loop-t.t c.loop-t-test.true)) c.row_of.ensures
     )
     c.add.ensures
 

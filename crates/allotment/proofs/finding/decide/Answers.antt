@@ -7,11 +7,11 @@ use Rattle.allotment.proofs.Deciding.{holds_weigh, beaten_by_one}
 use Rattle.allotment.proofs.Fullest.{fullest_by_weights}
 use Rattle.allotment.proofs.finding.decide.Goals as goal
 
-pub returns-then-not-all-weigh : goal.returns-then-not-all-weigh
-returns-then-not-all-weigh c =
+pub returns-then-not-all_weigh : goal.returns-then-not-all_weigh
+returns-then-not-all_weigh c =
     let e : Entries = entries c.args.lists.now in
     let M : Placement = seating c.args.seats in (
-      beaten_by_one e M c.requires.lawful c.requires.heaviest (holds_weigh e c.args.weighing.now M false c.requires.holds c.if-not-all-weigh.ensures),
+      beaten_by_one e M c.requires.lawful c.requires.heaviest (holds_weigh e c.args.weighing.now M false c.requires.holds c.if-not-all_weigh.ensures),
       c.of_round.ensures,
     )
 
@@ -19,7 +19,7 @@ pub returns : goal.returns
 returns c =
     let e : Entries = entries c.args.lists.now in
     let M : Placement = seating c.args.seats in (
-      fullest_by_weights e M c.requires.lawful c.requires.heaviest (holds_weigh e c.args.weighing.now M true c.requires.holds c.if-not-all-weigh.ensures),
-      c.count-seated-seated.ensures ∙ ap (λ n. seated n M) (sym (trainees_in c.args.lists.now)),
+      fullest_by_weights e M c.requires.lawful c.requires.heaviest (holds_weigh e c.args.weighing.now M true c.requires.holds c.if-not-all_weigh.ensures),
+      c.count_seated-seated.ensures ∙ ap (λ n. seated n M) (sym (trainees_in c.args.lists.now)),
       c.requires.rest,
     )

@@ -9,12 +9,12 @@ use Rattle.allotment.proofs.fits.first_unfit.Goals as goal
 pub loop-t-init : goal.loop-t-init
 loop-t-init g c = (refl, counted_none (offered_by c.args.offered.now))
 
-pub count-in-requires : goal.count-in-requires
-count-in-requires g c =
+pub count_in-requires : goal.count_in-requires
+count_in-requires g c =
     let e : Entries = g.R.Roll.entries c.args.roll.now in
     let lawful : Lawful e = g.R.Roll.lawful c.args.roll.now in
     record {
-      below = fits_below e lawful c.loop-t.t c.loop-t.counts (stored c.seat-of-seat.result) (sym c.if-not-is-fit.ensures);
+      below = fits_below e lawful c.loop-t.t c.loop-t.counts (stored c.seat_of-seat.result) (sym c.if-not-is_fit.ensures);
       few = counted_few c.loop-t.t (offered_by c.args.offered.now) c.loop-t.counts (omega (arith, lawful.few_trainees, c.trainees-t-end.ensures)) c.loop-t.invariant.1;
     }
 
@@ -22,22 +22,22 @@ pub loop-t-preserved : goal.loop-t-preserved
 loop-t-preserved g c =
     let e : Entries = g.R.Roll.entries c.args.roll.now in
     let M : Placement = offered_by c.args.offered.now in
-    let s : Seat = stored c.seat-of-seat.result in
-    let here : s ≡ M c.loop-t.t = read_offered c.args.offered.now c.loop-t.t s (omega (arith, c.trainees-t-end.ensures, c.requires)) c.seat-of-seat.ensures in (
-      fit_more e M c.loop-t.t c.loop-t.invariant.0 (sym (fits_counted e M c.loop-t.t c.loop-t.counts s c.loop-t.invariant.1 here) ∙ sym c.if-not-is-fit.ensures),
-      counted_more c.loop-t.t M s c.loop-t.counts c.count-in.new.counts here c.loop-t.invariant.1 c.count-in.ensures,
+    let s : Seat = stored c.seat_of-seat.result in
+    let here : s ≡ M c.loop-t.t = read_offered c.args.offered.now c.loop-t.t s (omega (arith, c.trainees-t-end.ensures, c.requires)) c.seat_of-seat.ensures in (
+      fit_more e M c.loop-t.t c.loop-t.invariant.0 (sym (fits_counted e M c.loop-t.t c.loop-t.counts s c.loop-t.invariant.1 here) ∙ sym c.if-not-is_fit.ensures),
+      counted_more c.loop-t.t M s c.loop-t.counts c.count_in.new.counts here c.loop-t.invariant.1 c.count_in.ensures,
     )
 
-pub returns-then-not-is-fit : goal.returns-then-not-is-fit
-returns-then-not-is-fit g c =
+pub returns-then-not-is_fit : goal.returns-then-not-is_fit
+returns-then-not-is_fit g c =
     let e : Entries = g.R.Roll.entries c.args.roll.now in
     let M : Placement = offered_by c.args.offered.now in
-    let s : Seat = stored c.seat-of-seat.result in
-    let here : s ≡ M c.loop-t.t = read_offered c.args.offered.now c.loop-t.t s (omega (arith, c.trainees-t-end.ensures, c.requires)) c.seat-of-seat.ensures in
+    let s : Seat = stored c.seat_of-seat.result in
+    let here : s ≡ M c.loop-t.t = read_offered c.args.offered.now c.loop-t.t s (omega (arith, c.trainees-t-end.ensures, c.requires)) c.seat_of-seat.ensures in
     sym
     (
     unfit_here e M (trainees e) c.loop-t.t (omega (arith, c.trainees-t-end.ensures)) c.loop-t.invariant.0
-    (sym (fits_counted e M c.loop-t.t c.loop-t.counts s c.loop-t.invariant.1 here) ∙ sym c.if-not-is-fit.ensures)
+    (sym (fits_counted e M c.loop-t.t c.loop-t.counts s c.loop-t.invariant.1 here) ∙ sym c.if-not-is_fit.ensures)
     )
 
 pub returns : goal.returns

@@ -13,8 +13,8 @@ pub loop-t-preserved : goal.loop-t-preserved
 loop-t-preserved g c =
     let L : Lists = c.args.lists.now in (
       total_more c.loop-t.t (λ t. by_lists (entries L) (g.W.Weigh.weighs c.args.weighing.now) t (seating c.args.seats.now t))
-          c.loop-t.whole c.from-whole.result c.loop-t.invariant.0 (c.from-whole.ensures ∙ c.weight-at.ensures.exact),
-      omega (arith, c.loop-t.invariant.1, c.from-whole.ensures, c.weight-at.ensures.modest),
+          c.loop-t.whole c.from-whole.result c.loop-t.invariant.0 (c.from-whole.ensures ∙ c.weight_at.ensures.exact),
+      omega (arith, c.loop-t.invariant.1, c.from-whole.ensures, c.weight_at.ensures.modest),
     )
 
 pub returns : goal.returns

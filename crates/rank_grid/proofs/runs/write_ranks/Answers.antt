@@ -15,11 +15,11 @@ loop-i-init c p l =
     let m : p < n = omega (arith, ap length c.clear.ensures, length-replicate {A = ℕ} n 0) in
     rw c.clear.ensures (get_or-replicate n p 0 0 m)
 
-pub overflow-cast-run : goal.overflow-cast-run
-overflow-cast-run c = omega (arith, c.requires.short, length_numbers c.args.list.now)
+pub overflow_cast-run : goal.overflow_cast-run
+overflow_cast-run c = omega (arith, c.requires.short, length_numbers c.args.list.now)
 
-pub overflow-add-run : goal.overflow-add-run
-overflow-add-run c = omega (arith, c.requires.short, length_numbers c.args.list.now)
+pub overflow_add-run : goal.overflow_add-run
+overflow_add-run c = omega (arith, c.requires.short, length_numbers c.args.list.now)
 
 pub bounds-run-list : goal.bounds-run-list
 bounds-run-list c =

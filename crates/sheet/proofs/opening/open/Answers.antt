@@ -4,9 +4,13 @@ use Rattle.sheet.specs.Filing.{Filing}
 use Rattle.sheet.proofs.Sheets.{opened_lawful, opened_sheet}
 use Rattle.sheet.proofs.opening.open.Goals as goal
 
-pub invariant-of-result : goal.invariant-of-result
-invariant-of-result c =
-    (λ k l. (let f = c.type-inv.bytes k in search rules), (c.opened-counts-counts.ensures, (∣ opened_lawful c.args.bytes.now ∣₁, tt)))
+pub invariant_of-result : goal.invariant_of-result
+invariant_of-result c =
+    record {
+      fits = λ k l. (let f = c.type_inv.bytes k in search rules);
+      counted = c.opened_counts-counts.ensures;
+      lawful = ∣ opened_lawful c.args.bytes.now ∣₁;
+    }
 
 pub returns : goal.returns
 returns c =

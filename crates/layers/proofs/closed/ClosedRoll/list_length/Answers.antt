@@ -10,5 +10,5 @@ returns g c =
     let s = c.args.self.now in
     let e = g.R.Roll.entries s.below in
     let t = c.args.t.0 in
-    let whole : length (list_of e t) ≤ c.list-length.result = omega (arith, c.list-length.ensures) in
-    c.shown-among.ensures ∙ ap (λ l. length (filter (unclosed s.closed) l)) (take_all c.list-length.result (list_of e t) whole) ∙ sym (ap length (list_without s.closed e t))
+    let whole : length (list_of e t) ≤ c.list_length.result = omega (arith, c.list_length.ensures) in
+    c.shown_among.ensures ∙ ap (λ l. length (filter (unclosed s.closed) l)) (take_all c.list_length.result (list_of e t) whole) ∙ sym (ap length (list_without s.closed e t))

@@ -6,14 +6,14 @@ use Rattle.layers.specs.Kept.{list_without}
 use Rattle.layers.proofs.Filtered.{position_unlisted, position_left, position_kept}
 use Rattle.layers.proofs.closed.ClosedRoll.position.Goals as goal
 
-pub returns-in-err-k : goal.returns-in-err-k
-returns-in-err-k g c =
+pub returns-in_err-k : goal.returns-in_err-k
+returns-in_err-k g c =
     let s = c.args.self.now in
     let e = g.R.Roll.entries s.below in
     let t = c.args.t.0 in
     let p = c.args.p.0 in
-    rw c.from-residual.ensures
-    (position_unlisted (unclosed s.closed) (list_of e t) p c.in-err-k.ensures ∙ sym (ap (λ l. position_in l p) (list_without s.closed e t)))
+    rw c.from_residual.ensures
+    (position_unlisted (unclosed s.closed) (list_of e t) p c.in_err-k.ensures ∙ sym (ap (λ l. position_in l p) (list_without s.closed e t)))
 
 pub returns : goal.returns
 returns g c =
@@ -21,12 +21,12 @@ returns g c =
     let e = g.R.Roll.entries s.below in
     let t = c.args.t.0 in
     let p = c.args.p.0 in
-    position_kept (unclosed s.closed) (list_of e t) p c.in-ok-k.k c.shown-among.result c.in-ok-k.ensures (ap not (sym c.if-is-closed.ensures)) c.shown-among.ensures ∙ sym (ap (λ l. position_in l p) (list_without s.closed e t))
+    position_kept (unclosed s.closed) (list_of e t) p c.in_ok-k.k c.shown_among.result c.in_ok-k.ensures (ap not (sym c.if-is_closed.ensures)) c.shown_among.ensures ∙ sym (ap (λ l. position_in l p) (list_without s.closed e t))
 
-pub returns-then-is-closed : goal.returns-then-is-closed
-returns-then-is-closed g c =
+pub returns-then-is_closed : goal.returns-then-is_closed
+returns-then-is_closed g c =
     let s = c.args.self.now in
     let e = g.R.Roll.entries s.below in
     let t = c.args.t.0 in
     let p = c.args.p.0 in
-    position_left (unclosed s.closed) (list_of e t) p (ap not (sym c.if-is-closed.ensures)) ∙ sym (ap (λ l. position_in l p) (list_without s.closed e t))
+    position_left (unclosed s.closed) (list_of e t) p (ap not (sym c.if-is_closed.ensures)) ∙ sym (ap (λ l. position_in l p) (list_without s.closed e t))

@@ -8,18 +8,31 @@ use Rattle.rank_grid.specs.Kept.{ranked_from}
 use Rattle.rank_grid.proofs.Gridded.{ranked_opened, entries_opened, held, cleared_zero, length_cleared, cleared_beyond}
 use Rattle.rank_grid.proofs.grid.RankGrid.open.Goals as goal
 
-pub invariant-of-result : goal.invariant-of-result
-invariant-of-result c = (omega arith, (omega arith, (omega arith, (refl, (∣ ranked_opened c.args.cells.now 0 0 (omega arith) (omega arith) (λ i l. omega arith) ∣₁, tt)))))
+pub invariant_of-result : goal.invariant_of-result
+invariant_of-result c =
+    record {
+      few = omega arith;
+      small = omega arith;
+      room = omega arith;
+      full = refl;
+      ok = ∣ ranked_opened c.args.cells.now 0 0 (omega arith) (omega arith) (λ i l. omega arith) ∣₁;
+    }
 
-pub invariant-of-result-2 : goal.invariant-of-result-2
-invariant-of-result-2 c =
+pub invariant_of-result-2 : goal.invariant_of-result-2
+invariant_of-result-2 c =
     let P = c.args.practices in
     let T = c.args.trainees in
     let cells = c.args.cells.now in
     let front = c.clear.new.part in
-    let r = roomy P T (T * P) (length cells) (none_from_ok _ c.in-default.ensures) in
+    let r = roomy P T (T * P) (length cells) (none_from_ok _ c.in_default.ensures) in
     let k = ranked_opened _ T P r.few_trainees r.few_practices (cleared_zero cells front (T * P) r.room c.clear.ensures) in
-    (r.few_trainees, (r.few_practices, (omega (arith, r.room, length_cleared cells front (T * P) r.room c.clear.ensures), (refl, (∣ k ∣₁, tt)))))
+    record {
+      few = r.few_trainees;
+      small = r.few_practices;
+      room = omega (arith, r.room, length_cleared cells front (T * P) r.room c.clear.ensures);
+      full = refl;
+      ok = ∣ k ∣₁;
+    }
 
 pub returns-in-Err : goal.returns-in-Err
 returns-in-Err c =
@@ -36,7 +49,7 @@ returns c =
     let T = c.args.trainees in
     let cells = c.args.cells.now in
     let front = c.clear.new.part in
-    let o = none_from_ok _ c.in-default.ensures in
+    let o = none_from_ok _ c.in_default.ensures in
     let r = roomy P T (T * P) (length cells) o in
     let z = cleared_zero cells front (T * P) r.room c.clear.ensures in
     let k = ranked_opened _ T P r.few_trainees r.few_practices z in

@@ -6,18 +6,31 @@ use Rattle.opening.proofs.Opened.{roomy}
 use Rattle.row_register.proofs.Rowing.{rowed_opened, entries_opened, held, cleared_front, length_cleared, cleared_beyond}
 use Rattle.row_register.proofs.table.RowRegister.open.Goals as goal
 
-pub invariant-of-result : goal.invariant-of-result
-invariant-of-result c = (omega arith, (omega arith, (omega arith, (refl, (∣ rowed_opened c.args.rows.now 0 0 (omega arith) (omega arith) refl ∣₁, tt)))))
+pub invariant_of-result : goal.invariant_of-result
+invariant_of-result c =
+    record {
+      few = omega arith;
+      small = omega arith;
+      room = omega arith;
+      full = refl;
+      ok = ∣ rowed_opened c.args.rows.now 0 0 (omega arith) (omega arith) refl ∣₁;
+    }
 
-pub invariant-of-result-2 : goal.invariant-of-result-2
-invariant-of-result-2 c =
+pub invariant_of-result-2 : goal.invariant_of-result-2
+invariant_of-result-2 c =
     let P = c.args.practices in
     let T = c.args.trainees in
     let rows = c.args.rows.now in
     let front = c.clear.new.rows in
-    let r = roomy P T T (length rows) (none_from_ok _ c.in-default.ensures) in
+    let r = roomy P T T (length rows) (none_from_ok _ c.in_default.ensures) in
     let k = rowed_opened _ T P r.few_trainees r.few_practices (cleared_front rows front T r.room c.clear.ensures) in
-    (r.few_trainees, (r.few_practices, (omega (arith, r.room, length_cleared rows front T r.room c.clear.ensures), (refl, (∣ k ∣₁, tt)))))
+    record {
+      few = r.few_trainees;
+      small = r.few_practices;
+      room = omega (arith, r.room, length_cleared rows front T r.room c.clear.ensures);
+      full = refl;
+      ok = ∣ k ∣₁;
+    }
 
 pub returns-in-Err : goal.returns-in-Err
 returns-in-Err c =
@@ -34,7 +47,7 @@ returns c =
     let T = c.args.trainees in
     let rows = c.args.rows.now in
     let front = c.clear.new.rows in
-    let o = none_from_ok _ c.in-default.ensures in
+    let o = none_from_ok _ c.in_default.ensures in
     let r = roomy P T T (length rows) o in
     let z = cleared_front rows front T r.room c.clear.ensures in
     let k = rowed_opened _ T P r.few_trainees r.few_practices z in

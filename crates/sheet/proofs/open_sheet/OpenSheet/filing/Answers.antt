@@ -4,8 +4,8 @@ use Rattle.sheet.specs.declared.counts.Counts.{Counts}
 use Rattle.sheet.proofs.Sheets.{filing_at}
 use Rattle.sheet.proofs.open_sheet.OpenSheet.filing.Goals as goal
 
-pub overflow-sub-result : goal.overflow-sub-result
-overflow-sub-result c =
+pub overflow_sub-result : goal.overflow_sub-result
+overflow_sub-result c =
     let s = c.args.self.now in
     omega (arith, ap (λ (k : Counts). k.filed) s.counted, (filing_at s.bytes.now s.fits).0)
 

@@ -26,8 +26,8 @@ loop-i-init c =
 pub bounds-self-at : goal.bounds-self-at
 bounds-self-at c = let w = walked c.args.self.now.bytes.now c.loop-i.i c.loop-i.at (omega (arith, c.trainees.ensures)) c.loop-i.invariant in omega (arith, w.within)
 
-pub overflow-add-at-in-loop-i-2 : goal.overflow-add-at-in-loop-i-2
-overflow-add-at-in-loop-i-2 c =
+pub overflow_add-at-in-loop-i-2 : goal.overflow_add-at-in-loop-i-2
+overflow_add-at-in-loop-i-2 c =
     let w = walked c.args.self.now.bytes.now c.loop-i.i c.loop-i.at (omega (arith, c.trainees.ensures)) c.loop-i.invariant in
     let h : c.loop-i.at + (1 + get_or c.args.self.now.bytes.now c.loop-i.at 0) ≤ length c.args.self.now.bytes.now = omega (arith, w.within) in
     search rules
@@ -35,14 +35,14 @@ overflow-add-at-in-loop-i-2 c =
 pub loop-i-preserved : goal.loop-i-preserved
 loop-i-preserved c = (walked c.args.self.now.bytes.now c.loop-i.i c.loop-i.at (omega (arith, c.trainees.ensures)) c.loop-i.invariant).next
 
-pub overflow-add-result : goal.overflow-add-result
-overflow-add-result c =
+pub overflow_add-result : goal.overflow_add-result
+overflow_add-result c =
     let w = walked c.args.self.now.bytes.now c.loop-i.i c.loop-i.at (omega (arith, c.trainees.ensures)) c.loop-i.invariant in
     let h : c.loop-i.at + 1 ≤ length c.args.self.now.bytes.now = omega (arith, w.within) in
     search rules
 
-pub overflow-add-result-2 : goal.overflow-add-result-2
-overflow-add-result-2 c =
+pub overflow_add-result-2 : goal.overflow_add-result-2
+overflow_add-result-2 c =
     let w = walked c.args.self.now.bytes.now c.loop-i.i c.loop-i.at (omega (arith, c.trainees.ensures)) c.loop-i.invariant in
     let h : c.loop-i.at + 1 ≤ length c.args.self.now.bytes.now = omega (arith, w.within) in
     search rules
@@ -50,14 +50,14 @@ overflow-add-result-2 c =
 pub bounds-self-at-2 : goal.bounds-self-at-2
 bounds-self-at-2 c = let w = walked c.args.self.now.bytes.now c.loop-i.i c.loop-i.at (omega (arith, c.trainees.ensures)) c.loop-i.invariant in omega (arith, w.within)
 
-pub overflow-add-result-3 : goal.overflow-add-result-3
-overflow-add-result-3 c =
+pub overflow_add-result-3 : goal.overflow_add-result-3
+overflow_add-result-3 c =
     let w = walked c.args.self.now.bytes.now c.loop-i.i c.loop-i.at (omega (arith, c.trainees.ensures)) c.loop-i.invariant in
     let h = w.within in
     search rules
 
-pub slice-bounds-result-end-2 : goal.slice-bounds-result-end-2
-slice-bounds-result-end-2 c =
+pub slice_bounds-result-end-2 : goal.slice_bounds-result-end-2
+slice_bounds-result-end-2 c =
     let w = walked c.args.self.now.bytes.now c.loop-i.i c.loop-i.at (omega (arith, c.trainees.ensures)) c.loop-i.invariant in
     let h = w.within in
     search rules

@@ -4,8 +4,8 @@ use Rattle.sheet.specs.Opening.{entries_in}
 use Rattle.sheet.proofs.Sheets.{list_short}
 use Rattle.sheet.proofs.opening.OpenSheetRoll.list_length.Goals as goal
 
-pub overflow-cast-result : goal.overflow-cast-result
-overflow-cast-result c =
+pub overflow_cast-result : goal.overflow_cast-result
+overflow_cast-result c =
     let s = c.args.self.now in
     let h : length c.list.result.now ≤ 12 = omega (arith, ap length c.list.ensures, list_short (entries_in s) (lawful_from s.lawful) c.args.t.0) in
     search rules

@@ -8,13 +8,13 @@ returns c =
     record {
       after = refusal_put (text c.args.self.now)
           (text c.put.new.self) (text c.put_number.new.self) (text c.push.new.self) (text c.put-2.new.self)
-          c.args.refusal (text c.push-2.new.self) (text c.put-number-2.new.self) (text c.push-3.new.self)
+          c.args.refusal (text c.push-2.new.self) (text c.put_number-2.new.self) (text c.push-3.new.self)
           c.put.ensures
           (c.put_number.ensures.after ∙ ap (λ n. kept (text c.put.new.self ++ decimal n)) c.number.ensures)
           c.push.ensures
-          (c.put-2.ensures ∙ ap (λ w. kept (text c.push.new.self ++ w)) (c.as-bytes.ensures.value ∙ c.word.ensures))
+          (c.put-2.ensures ∙ ap (λ w. kept (text c.push.new.self ++ w)) (c.as_bytes.ensures.value ∙ c.word.ensures))
           c.push-2.ensures
-          c.put-number-2.ensures.after
+          c.put_number-2.ensures.after
           c.push-3.ensures;
-      short = refusal_short c.args.refusal (subst (λ n. length (decimal n) ≤ 20) c.number.ensures c.put_number.ensures.short) c.put-number-2.ensures.short;
+      short = refusal_short c.args.refusal (subst (λ n. length (decimal n) ≤ 20) c.number.ensures c.put_number.ensures.short) c.put_number-2.ensures.short;
     }

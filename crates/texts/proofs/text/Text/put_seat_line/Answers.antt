@@ -6,6 +6,6 @@ use Rattle.texts.proofs.text.Text.put_seat_line.Goals as goal
 pub returns : goal.returns
 returns c =
     seat_put (text c.args.self.now)
-    (text c.put_number.new.self) (text c.push.new.self) (text c.put-seat.new.self) (text c.push-2.new.self)
+    (text c.put_number.new.self) (text c.push.new.self) (text c.put_seat.new.self) (text c.push-2.new.self)
     c.args.t (stored c.args.seat)
-    c.put_number.ensures.after c.push.ensures c.put-seat.ensures c.push-2.ensures
+    c.put_number.ensures.after c.push.ensures c.put_seat.ensures c.push-2.ensures

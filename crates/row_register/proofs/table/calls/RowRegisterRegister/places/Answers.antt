@@ -9,20 +9,26 @@ use Rattle.row_register.specs.Kept.{rowed_from}
 use Rattle.row_register.proofs.Rowing.{rowed_placed, placed_then}
 use Rattle.row_register.proofs.table.calls.RowRegisterRegister.places.Goals as goal
 
-pub invariant-of-self : goal.invariant-of-self
-invariant-of-self c =
+pub invariant_of-self : goal.invariant_of-self
+invariant_of-self c =
     let s = c.args.self.now in
-    let o = sym c.places_refusal.ensures ∙ none_from_ok _ c.in-ok-answer.ensures in
+    let o = sym c.places_refusal.ensures ∙ none_from_ok _ c.in_ok-answer.ensures in
     let a = placeable (row_meaning s) c.args.p.0 c.args.n o in
     let l : c.args.p.0 < s.practices = omega (arith, a.practice, length_offered s.places s.practices s.full s.small) in
     let r = rowed_placed s.rows.now s.trainees s.practices s.places s.full s.small (rowed_from s.ok) c.args.p.0 l c.args.n a.least a.most in
-    (s.few, (s.small, (s.room, (length-set s.places c.args.p.0 c.args.n ∙ s.full, (∣ r ∣₁, tt)))))
+    record {
+      few = s.few;
+      small = s.small;
+      room = s.room;
+      full = length-set s.places c.args.p.0 c.args.n ∙ s.full;
+      ok = ∣ r ∣₁;
+    }
 
-pub returns-in-err-answer : goal.returns-in-err-answer
-returns-in-err-answer c =
+pub returns-in_err-answer : goal.returns-in_err-answer
+returns-in_err-answer c =
     let s = c.args.self.now in
-    let p = err_from_is_err_and c.from-residual.result c.from-residual.ensures.1 in
-    let o = sym c.places_refusal.ensures ∙ some_from_err _ _ c.in-err-answer.ensures in
+    let p = err_from_is_err_and c.from_residual.result c.from_residual.ensures.1 in
+    let o = sym c.places_refusal.ensures ∙ some_from_err _ _ c.in_err-answer.ensures in
     rw (p.1, p.2)
     (record {
       places = outcome_some (row_meaning s) _ _ _ o;
@@ -33,7 +39,7 @@ returns-in-err-answer c =
 pub returns : goal.returns
 returns c =
     let s = c.args.self.now in
-    let o = sym c.places_refusal.ensures ∙ none_from_ok _ c.in-ok-answer.ensures in
+    let o = sym c.places_refusal.ensures ∙ none_from_ok _ c.in_ok-answer.ensures in
     let a = placeable (row_meaning s) c.args.p.0 c.args.n o in
     let l : c.args.p.0 < s.practices = omega (arith, a.practice, length_offered s.places s.practices s.full s.small) in
     let e = placed_then s.rows.now s.trainees s.practices s.places s.full s.small (rowed_from s.ok) c.args.p.0 l c.args.n in
