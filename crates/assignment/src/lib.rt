@@ -1,4 +1,6 @@
 // A placement of greatest weight, found by prices; the lists of the search are lent by the caller.
+#![tactic(auto)]
+
 mod load;
 mod moves;
 pub mod place;

@@ -1,13 +1,12 @@
 -- The cells, and the entries that they hold.
-use Rattle.std.proofs.Common.{◌≡◌, ℕ, zero, suc, ◌+◌, ◌-◌, ◌*◌, ◌<◌, ◌≤◌, min, Bool, true, false, cond, ◌⊎◌, List, [], ◌∷◌, ◌++◌, map, length, get_or, take, drop, set, replicate, Some, None, Option, sym, refl, ap, ◌∙◌, inl, inr, mul-le-mul_right, suc-mul, arith, length-append, length-drop, length-set, length-take}
+use Rattle.std.proofs.Common.{◌≡◌, ℕ, zero, suc, ◌+◌, ◌-◌, ◌*◌, ◌<◌, ◌≤◌, true, false, ◌⊎◌, List, [], ◌∷◌, ◌++◌, length, get_or, take, drop, set, replicate, Some, None, sym, ap, ◌∙◌, inl, inr, mul-le-mul_right, suc-mul, arith, length-append, length-drop, length-set, length-take}
 use lib.ListN.{length-replicate}
 use lib.Seq.{take-set-lt}
-use Rattle.std.specs.List.{range_with_len, flat_map}
+use Rattle.std.specs.List.{flat_map}
 use Rattle.std.proofs.lemmas.List.FromFn.{fill_by_all, length-map-range_with_len, get_or-map-range_with_len}
 use Rattle.std.proofs.lemmas.List.{ext_get_or, append_assoc, drop-drop, get_or_past, get_or-take, get_or-drop, get_or_append_left, get_or-append_right, get_or-set_same, get_or-set_other, get_or-replicate, length-take-le, take-append-drop, take-replicate, drop_at}
 use Rattle.std.proofs.lemmas.Bool.{lt-ltb, le-ltb, cases_eq, cases_lt, cases_Bool}
-use Rattle.rules.specs.declared.words.Practice.{Practice}
-use Rattle.rules.specs.Meaning.{Entries, Meaning, Strict, Lawful, trainees, practices, with_list, with_places}
+use Rattle.rules.specs.Meaning.{Entries, Strict, Lawful, trainees, practices, with_places}
 use Rattle.rules.specs.Questions.{listed, position, choice_in, position_in}
 use Rattle.rules.proofs.Positions.{unlisted}
 use Rattle.rules.proofs.Lawfully.{strict_none, lawful_listed, lawful_placed}

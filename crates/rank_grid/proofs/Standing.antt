@@ -1,6 +1,6 @@
 -- What a grid that stands gives its answers.
-use Rattle.std.proofs.Common.{◌≡◌, ℕ, ◌+◌, ◌*◌, ◌<◌, ◌≤◌, List, [], length, get_or, None, Ok, sym, refl, ap, ◌∙◌, le_refl, arith}
-use Rattle.rules.specs.Meaning.{Meaning, Strict, list_of, with_list}
+use Rattle.std.proofs.Common.{◌≡◌, ℕ, ◌+◌, ◌*◌, ◌<◌, ◌≤◌, List, length, None, refl, le_refl, arith}
+use Rattle.rules.specs.Meaning.{Strict, list_of, with_list}
 use Rattle.rules.specs.Refusals.{entry_refusal}
 use Rattle.rules.proofs.Checking.{admitted, strict_from_none}
 use Rattle.opening.proofs.Offered.{length_offered}

@@ -1,5 +1,4 @@
 -- What a rank grid means.
-use Rattle.std.specs.Prelude.{ℕ, List}
 use Rattle.rules.specs.Meaning.{Meaning}
 use Rattle.opening.specs.Opening.{plain_rules}
 use Rattle.rank_grid.specs.declared.grid.RankGrid.{RankGrid}

@@ -1,5 +1,5 @@
 -- The entries that cells hold, read off them.
-use Rattle.std.specs.Prelude.{◌≡◌, ℕ, zero, suc, ◌+◌, ◌*◌, ◌<◌, max, cond, List, [], ◌++◌, map, length, take, drop, ◌==◌, slice_index, slice_index_or}
+use Rattle.std.specs.Prelude.{◌≡◌, ℕ, zero, suc, ◌+◌, ◌*◌, ◌<◌, max, cond, List, [], ◌++◌, map, take, drop, ◌==◌, slice_index, slice_index_or}
 use Rattle.std.specs.List.{range_with_len}
 use Rattle.rules.specs.Meaning.{Entries, Lawful}
 use Rattle.rank_grid.specs.Ranks.{rank, ranks}

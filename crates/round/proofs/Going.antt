@@ -12,7 +12,7 @@ use Rattle.voting.specs.Votes.{Fullest, EachBeaten}
 use Rattle.allotment.specs.Calls.{enough, Verdict}
 use Rattle.round.specs.Account.{Given, Event, enters, sets_places, allots, asks_seat, challenges, at, changed, standing, given_by, settles, Stands, Refuses, Gives, Seats, Challenged, Law}
 use Rattle.round.specs.Steps.{State, unplaced, enter_step, places_step, seat_in, seat_answer, answered, seats_told, on_verdict, allot_step, Allots, given, SeatsGiven}
-use Rattle.round.specs.Telling.{Tells, Goes_on}
+use Rattle.round.specs.Telling.{Tells, GoesOn}
 use Rattle.round.proofs.Appending.{◌and◌, length_and, at_old, at_new, at_within, take_old, standing_and, stands_old, stands_still, stands_on, stands_new, stands_which}
 use Rattle.round.proofs.Agreeing.{seated_same, fullest_same}
 
@@ -279,7 +279,7 @@ module _ (m₀ : Meaning) (account : List Event) (s : State) (tells : Tells m₀
           seats = seats_more;
         }
 
-pub goes_on : (s : State) (e : Event) (s' : State) → Steps s e s' → Goes_on s e s'
+pub goes_on : (s : State) (e : Event) (s' : State) → Steps s e s' → GoesOn s e s'
 goes_on s e s' step m₀ account tells = more m₀ account s tells e s' step
 
 -- at the opening

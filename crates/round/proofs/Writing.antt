@@ -12,7 +12,7 @@ use Rattle.round.specs.declared.script.Answer.{Answer}
 use Rattle.round.specs.declared.script.Answer.TheVariants.{Allotted}
 use Rattle.round.specs.Account.{Event, enters, sets_places, allots, asks_seat, challenges, changed, standing}
 use Rattle.round.specs.Steps.{State, unplaced, seats_told, given}
-use Rattle.round.specs.Telling.{Tells, Goes_on}
+use Rattle.round.specs.Telling.{Tells, GoesOn}
 use Rattle.round.specs.Serving.{Line, allotted, not_allotted, room_of, rooms, Written, nothing, and_then, serve_refusal, Made, Serves, ServedAs}
 use Rattle.round.specs.Making.{noted}
 
@@ -90,7 +90,7 @@ still_all m₀ n script answers₀ answers memory₀ memory i used s g =
 going_on :
     (m₀ : Meaning) (n : ℕ) (script : List Call) (answers₀ answers : List Answer) (memory₀ memory : List ℕ) (i used k : ℕ) (s s' : State) (d : Call) (a : Answer) (ys : List ℕ) (e : Event) →
     Going m₀ n script answers₀ answers memory₀ memory i used s → i < length script → i < length answers → k ≡ room_of n (get_or script i d) → used + k ≤ length memory → length memory ≡ length memory₀ → length ys ≡ k →
-    Line n (get_or script i d) a (take k (drop used memory)) ys e → Goes_on s e s' →
+    Line n (get_or script i d) a (take k (drop used memory)) ys e → GoesOn s e s' →
     Going m₀ n script answers₀ (set answers i a) memory₀ (put_mid used k memory ys) (i + 1) (used + k) s'
 going_on m₀ n script answers₀ answers memory₀ memory i used k s s' d a ys e g l la q fits same ly line goes =
     record {
@@ -123,7 +123,7 @@ part_length xs used r h = simp (length-take, length-drop) (omega arith)
 pub going_step :
     (m₀ : Meaning) (n n' : ℕ) (script : List Call) (answers₀ answers : List Answer) (memory₀ memory : List ℕ) (i used r : ℕ) (s s' : State) (d : Call) (a : Answer) (ys : List ℕ) (e : Event) → n' ≡ n →
     Going m₀ n script answers₀ answers memory₀ memory i used s → i < length script → i < length answers → r ≡ room_of n (get_or script i d) → used + r ≤ length memory → length memory ≡ length memory₀ →
-    length ys ≡ length (take (used + r - used) (drop used memory)) → Line n' (get_or script i d) a (take (used + r - used) (drop used memory)) ys e → Goes_on s e s' →
+    length ys ≡ length (take (used + r - used) (drop used memory)) → Line n' (get_or script i d) a (take (used + r - used) (drop used memory)) ys e → GoesOn s e s' →
     Going m₀ n script answers₀ (set answers i a) memory₀ (put_mid used (used + r - used) memory ys) (i + 1) (used + r) s'
 going_step m₀ n n' script answers₀ answers memory₀ memory i used r s s' d a ys e p g l la q fits same ly line goes =
     subst (λ x. Going m₀ n script answers₀ (set answers i a) memory₀ (put_mid used x memory ys) (i + 1) (used + r) s') (sym k)

@@ -7,12 +7,12 @@ use Rattle.round.specs.declared.script.Call.{Call}
 use Rattle.round.specs.declared.script.Answer.{Answer}
 use Rattle.round.specs.Account.{Event}
 use Rattle.round.specs.Steps.{State, seats_told}
-use Rattle.round.specs.Telling.{Goes_on}
+use Rattle.round.specs.Telling.{GoesOn}
 use Rattle.round.specs.Serving.{Line}
 
 -- one call of a script made on a round
 abbrev pub Makes : ℕ → State → Call → Answer → List ℕ → List ℕ → State → Type 0
-Makes n s call answer before after s' = (e : Event) × Line n call answer before after e × Goes_on s e s'
+Makes n s call answer before after s' = (e : Event) × Line n call answer before after e × GoesOn s e s'
 
 -- each practice fits a byte
 abbrev pub Narrow : Placement → Type 0

@@ -12,5 +12,5 @@ pub record Tells (m₀ : Meaning) (account : List Event) (s : State) : Type 0 wh
   pub seats : (t : ℕ) → Seats account (length account) (trainees s.meaning.entries) t (seat_answer s t)
 
 -- A call takes the round from s to s': whatever account told of s, that account with the call at its end tells of s'.
-abbrev pub Goes_on : State → Event → State → Type 0
-Goes_on s e s' = (m₀ : Meaning) (account : List Event) → Tells m₀ account s → Tells m₀ (account ++ e ∷ []) s'
+abbrev pub GoesOn : State → Event → State → Type 0
+GoesOn s e s' = (m₀ : Meaning) (account : List Event) → Tells m₀ account s → Tells m₀ (account ++ e ∷ []) s'

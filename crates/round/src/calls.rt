@@ -5,7 +5,7 @@ ghost use Rattle.rules.specs.Questions.{numbers};
 ghost use Rattle.allotment.specs.Calls.{enough};
 ghost use Rattle.round.specs.Account.{enters, sets_places, allots, asks_seat, challenges, Challenged};
 ghost use Rattle.round.specs.Steps.{unplaced, enter_step, places_step, seat_answer, Allots, given, SeatsGiven};
-ghost use Rattle.round.specs.Telling.{Tells, Goes_on};
+ghost use Rattle.round.specs.Telling.{Tells, GoesOn};
 ghost use Rattle.round.specs.Seen.{seen, numbered};
 
 use crate::refusing::of_round;
@@ -49,7 +49,7 @@ impl<R: Register> Round<R> {
     // Replaces one trainee's list; when accepted, the standing placement lapses.
     pub fn enter(&mut self, t: Trainee, list: &[Practice]) -> Result<(), Refusal>
         ensures exact { enter_step (seen R.Roll.entries R.Terms.rules self.old) t.0 (numbers list.now) ≡ (result, seen R.Roll.entries R.Terms.rules self.new) }
-        ensures law { Goes_on (seen R.Roll.entries R.Terms.rules self.old) (enters t.0 (numbers list.now) result) (seen R.Roll.entries R.Terms.rules self.new) }
+        ensures law { GoesOn (seen R.Roll.entries R.Terms.rules self.old) (enters t.0 (numbers list.now) result) (seen R.Roll.entries R.Terms.rules self.new) }
     {
         self.register.enter(t, list)?;
         self.stands = false; // the list is new
@@ -59,7 +59,7 @@ impl<R: Register> Round<R> {
     // Replaces one practice's places; when accepted, the standing placement lapses.
     pub fn places(&mut self, p: Practice, n: u16) -> Result<(), Refusal>
         ensures exact { places_step (seen R.Roll.entries R.Terms.rules self.old) p.0 n ≡ (result, seen R.Roll.entries R.Terms.rules self.new) }
-        ensures law { Goes_on (seen R.Roll.entries R.Terms.rules self.old) (sets_places p.0 n result) (seen R.Roll.entries R.Terms.rules self.new) }
+        ensures law { GoesOn (seen R.Roll.entries R.Terms.rules self.old) (sets_places p.0 n result) (seen R.Roll.entries R.Terms.rules self.new) }
     {
         self.register.places(p, n)?;
         self.stands = false; // the places are new
@@ -69,7 +69,7 @@ impl<R: Register> Round<R> {
     // The trainee's seat in the placement that stands.
     pub fn seat(&self, t: Trainee) -> Result<Option<Practice>, Refusal>
         ensures exact { numbered result ≡ seat_answer (seen R.Roll.entries R.Terms.rules self.now) t.0 }
-        ensures law { Goes_on (seen R.Roll.entries R.Terms.rules self.now) (asks_seat t.0 (numbered result)) (seen R.Roll.entries R.Terms.rules self.now) }
+        ensures law { GoesOn (seen R.Roll.entries R.Terms.rules self.now) (asks_seat t.0 (numbered result)) (seen R.Roll.entries R.Terms.rules self.now) }
     {
         if t.0 >= self.trainees() {
             return Err(of_round(Reason::NoSuchTrainee, t.0 as usize));
@@ -87,7 +87,7 @@ impl<R: Register> Round<R> {
         ensures keeps { self.new.register ≡ self.old.register }
         ensures seats { SeatsGiven result (seen R.Roll.entries R.Terms.rules self.new) }
         ensures slots { enough (R.Roll.entries self.old.register) (length waiting.old) (length moves.old) ≡ false → (waiting.new ≡ waiting.old) × (moves.new ≡ moves.old) }
-        ensures law { Goes_on (seen R.Roll.entries R.Terms.rules self.old) (allots (length waiting.old) (length moves.old) (given result (seen R.Roll.entries R.Terms.rules self.new))) (seen R.Roll.entries R.Terms.rules self.new) }
+        ensures law { GoesOn (seen R.Roll.entries R.Terms.rules self.old) (allots (length waiting.old) (length moves.old) (given result (seen R.Roll.entries R.Terms.rules self.new))) (seen R.Roll.entries R.Terms.rules self.new) }
     {
         let found = calls::find(&self.register, waiting, moves)?;
         let table = Table::of(found.seats, found.seated);
@@ -100,7 +100,7 @@ impl<R: Register> Round<R> {
     // The strongest rival of the offered placement for the standing entries, and its majority.
     pub fn challenge(&self, offered: &[u8], rival: &mut [u8]) -> Result<u16, Refusal>
         ensures exact { Challenged (R.Roll.entries self.now.register) offered.now rival.old result rival.new }
-        ensures law { Goes_on (seen R.Roll.entries R.Terms.rules self.now) (challenges offered.now rival.old result rival.new) (seen R.Roll.entries R.Terms.rules self.now) }
+        ensures law { GoesOn (seen R.Roll.entries R.Terms.rules self.now) (challenges offered.now rival.old result rival.new) (seen R.Roll.entries R.Terms.rules self.now) }
     {
         calls::challenge(&self.register, offered, rival)
     }

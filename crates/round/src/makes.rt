@@ -3,7 +3,7 @@ ghost use Rattle.std.specs.Prelude.{◌≡◌, min, length};
 ghost use Rattle.rules.specs.Meaning.{trainees};
 ghost use Rattle.round.specs.Account.{allots};
 ghost use Rattle.round.specs.Steps.{Allots, given};
-ghost use Rattle.round.specs.Telling.{Goes_on};
+ghost use Rattle.round.specs.Telling.{GoesOn};
 ghost use Rattle.round.specs.Seen.{seen};
 ghost use Rattle.round.specs.Serving.{room_of};
 ghost use Rattle.round.specs.Making.{Makes, noted};
@@ -33,7 +33,7 @@ fn allot_with<R: Register>(
 ) -> Result<u16, Refusal>
     requires { (length waiting.old ≡ 400) × (length moves.old ≡ 400) }
     ensures exact { Allots (seen R.Roll.entries R.Terms.rules round.old) w k result (seen R.Roll.entries R.Terms.rules round.new) }
-    ensures law { Goes_on (seen R.Roll.entries R.Terms.rules round.old) (allots w k (given result (seen R.Roll.entries R.Terms.rules round.new))) (seen R.Roll.entries R.Terms.rules round.new) }
+    ensures law { GoesOn (seen R.Roll.entries R.Terms.rules round.old) (allots w k (given result (seen R.Roll.entries R.Terms.rules round.new))) (seen R.Roll.entries R.Terms.rules round.new) }
 {
     let w = lent(w);
     let k = lent(k);
@@ -49,7 +49,7 @@ fn allot_noted<R: Register>(
 ) -> Result<u16, Refusal>
     requires { length room.old ≡ trainees (R.Roll.entries round.old.register) }
     ensures room { room.new ≡ noted result (seen R.Roll.entries R.Terms.rules round.new) room.old }
-    ensures law { Goes_on (seen R.Roll.entries R.Terms.rules round.old) (allots w k (given result (seen R.Roll.entries R.Terms.rules round.new))) (seen R.Roll.entries R.Terms.rules round.new) }
+    ensures law { GoesOn (seen R.Roll.entries R.Terms.rules round.old) (allots w k (given result (seen R.Roll.entries R.Terms.rules round.new))) (seen R.Roll.entries R.Terms.rules round.new) }
 {
     let mut waiting = [Trainee(0); 400];
     let mut moves = [Move {

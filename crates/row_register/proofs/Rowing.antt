@@ -1,13 +1,12 @@
 -- The rows, and the entries that they hold.
-use Rattle.std.proofs.Common.{◌≡◌, ℕ, suc, ◌+◌, ◌-◌, ◌<◌, ◌≤◌, ◌⊎◌, List, [], ◌∷◌, ◌++◌, map, length, get_or, take, drop, set, replicate, Some, None, sym, refl, ap, ◌∙◌, inl, inr, le_refl, arith, length-append, length-drop, length-set, drop-set-lt}
+use Rattle.std.proofs.Common.{◌≡◌, ℕ, suc, ◌+◌, ◌-◌, ◌<◌, ◌≤◌, ◌⊎◌, List, [], ◌∷◌, ◌++◌, map, length, get_or, take, drop, set, replicate, Some, None, sym, refl, ap, ◌∙◌, inl, inr, le_refl, arith, length-append, length-drop, drop-set-lt}
 use lib.ListN.{length-replicate, length-map}
 use lib.Seq.{take-set-lt}
 use lib.LanesLaws.{map-replicate}
 use Rattle.std.proofs.lemmas.List.{ext_get_or, get_or-map, get_or_past, get_or-take, get_or_append_left, get_or-append_right, get_or-set_same, get_or-set_other, get_or-replicate, length-take-le, take-append-drop, take-replicate, take_at, take_all, take_more, drop_at, map-set, set-append_right, append_assoc}
 use Rattle.std.proofs.lemmas.Bool.{lt-ltb, le-ltb, cases_eq, cases_lt}
-use Rattle.rules.specs.declared.words.Practice.{Practice}
-use Rattle.rules.specs.Meaning.{Entries, Strict, Lawful, trainees, with_list, with_places}
-use Rattle.rules.specs.Questions.{listed, position, choice_in, position_in}
+use Rattle.rules.specs.Meaning.{Entries, Strict, Lawful, trainees, with_places}
+use Rattle.rules.specs.Questions.{position, choice_in, position_in}
 use Rattle.rules.proofs.Positions.{position_is, unlisted}
 use Rattle.rules.proofs.Lawfully.{lawful_listed, lawful_placed}
 use Rattle.opening.specs.Opening.{opened, plain_rules}

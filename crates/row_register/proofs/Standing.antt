@@ -1,10 +1,9 @@
 -- What a row register that stands gives its answers.
-use Rattle.std.proofs.Common.{◌≡◌, ℕ, ◌<◌, ◌≤◌, List, [], length, get_or, set, None, sym, refl, ap, ◌∙◌, le_refl, arith, length-set}
+use Rattle.std.proofs.Common.{◌≡◌, ℕ, ◌<◌, ◌≤◌, List, length, set, None, refl, le_refl, arith, length-set}
 use Rattle.rules.specs.Meaning.{Strict, list_of, with_list}
 use Rattle.rules.specs.Refusals.{entry_refusal}
 use Rattle.rules.proofs.Checking.{admitted, strict_from_none}
 use Rattle.opening.proofs.Offered.{length_offered}
-use Rattle.row_register.specs.declared.row.Row.{Row}
 use Rattle.row_register.specs.declared.table.RowRegister.{RowRegister}
 use Rattle.row_register.specs.Rows.{row_of, holding}
 use Rattle.row_register.specs.Reading.{row_list, row_at, Neat, Rowed, entries_of}

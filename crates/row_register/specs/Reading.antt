@@ -2,7 +2,6 @@
 use Rattle.std.specs.Prelude.{◌≡◌, ℕ, ◌<◌, ◌≤◌, List, [], map, length, take, slice_index, slice_index_or}
 use Rattle.rules.specs.Meaning.{Entries, Lawful}
 use Rattle.row_register.specs.declared.row.Row.{Row}
-use Rattle.row_register.specs.Rows.{row_of}
 
 abbrev pub row_list : Row → List ℕ
 row_list r = take r.count r.choices

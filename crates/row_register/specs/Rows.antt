@@ -1,5 +1,5 @@
 -- The rows that hold entries: for each trainee its list, and zeros behind it.
-use Rattle.std.specs.Prelude.{ℕ, ◌-◌, List, [], ◌++◌, map, length, drop, replicate}
+use Rattle.std.specs.Prelude.{ℕ, ◌-◌, List, ◌++◌, map, length, drop, replicate}
 use Rattle.rules.specs.Meaning.{Entries, trainees}
 use Rattle.row_register.specs.declared.row.Row.{Row}
 

@@ -1,4 +1,6 @@
 // The sheet: checking bytes, and opening them as a roll with a filing.
+#![tactic(auto)]
+
 pub mod check;
 mod counts;
 mod numbers;

@@ -10,7 +10,7 @@ use rules::words::Trainee;
 // How many bytes all lists take.
 pub(crate) fn lists_length<R: Roll>(roll: &R) -> usize
     ensures few { result ≤ 5200 }
-    ensures all { result ≡ length (flat_map measured (entries roll.now).lists) }
+    ensures all { result ≡ length (flat_map measured (R.entries roll.now).lists) }
 {
     let mut total = 0;
     for t in 0..roll.trainees() {
@@ -20,8 +20,8 @@ pub(crate) fn lists_length<R: Roll>(roll: &R) -> usize
 }
 
 fn choice_byte<R: Roll>(roll: &R, t: Trainee, k: u8) -> u8
-    requires { k < length (list_of (entries roll.now) t.0) }
-    ensures { result ≡ slice_index (list_of (entries roll.now) t.0) k }
+    requires { k < length (list_of (R.entries roll.now) t.0) }
+    ensures { result ≡ slice_index (list_of (R.entries roll.now) t.0) k }
 {
     match roll.choice(t, k) {
         Some(p) => p.0 as u8,
@@ -31,8 +31,8 @@ fn choice_byte<R: Roll>(roll: &R, t: Trainee, k: u8) -> u8
 
 // One list, over the whole of `out`.
 fn put_list<R: Roll>(roll: &R, t: Trainee, out: &mut [u8])
-    requires { length out.old ≡ length (measured (list_of (entries roll.now) t.0)) }
-    ensures { out.new ≡ measured (list_of (entries roll.now) t.0) }
+    requires { length out.old ≡ length (measured (list_of (R.entries roll.now) t.0)) }
+    ensures { out.new ≡ measured (list_of (R.entries roll.now) t.0) }
 {
     let n = roll.list_length(t);
     out[0] = n;
@@ -43,8 +43,8 @@ fn put_list<R: Roll>(roll: &R, t: Trainee, out: &mut [u8])
 
 // All lists, one behind the other.
 pub(crate) fn put_lists<R: Roll>(roll: &R, out: &mut [u8])
-    requires { length out.old ≡ length (flat_map measured (entries roll.now).lists) }
-    ensures { out.new ≡ flat_map measured (entries roll.now).lists }
+    requires { length out.old ≡ length (flat_map measured (R.entries roll.now).lists) }
+    ensures { out.new ≡ flat_map measured (R.entries roll.now).lists }
 {
     let mut at = 0;
     for t in 0..roll.trainees() {

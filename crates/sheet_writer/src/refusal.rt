@@ -13,7 +13,7 @@ use sheet::wrong::off_filed;
 // How many bytes the sheet takes.
 fn sheet_length<R: Roll>(roll: &R, filing: &[u8]) -> usize
     requires { length filing.now ≤ 400 }
-    ensures { result ≡ length (sheet (entries roll.now) filing.now) }
+    ensures { result ≡ length (sheet (R.entries roll.now) filing.now) }
 {
     6 + 2 * roll.practices() as usize + lists_length(roll) + filing.len()
 }
@@ -31,7 +31,7 @@ fn filed_refusal(practices: u16, filing: &[u8]) -> Option<Refusal>
 }
 
 pub(crate) fn write_refusal<R: Roll>(roll: &R, filing: &[u8], room: usize) -> Option<Refusal>
-    ensures { result ≡ write_refusal (entries roll.now) filing.now room }
+    ensures { result ≡ write_refusal (R.entries roll.now) filing.now room }
 {
     let trainees = roll.trainees() as usize;
     if filing.len() != 0 && filing.len() != trainees {

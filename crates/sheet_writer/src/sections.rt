@@ -17,8 +17,8 @@ fn put_pair(v: u16, out: &mut [u8])
 }
 
 fn put_places<R: Roll>(roll: &R, out: &mut [u8])
-    requires { length out.old ≡ length (flat_map pair (entries roll.now).places) }
-    ensures { out.new ≡ flat_map pair (entries roll.now).places }
+    requires { length out.old ≡ length (flat_map pair (R.entries roll.now).places) }
+    ensures { out.new ≡ flat_map pair (R.entries roll.now).places }
 {
     let mut at = 0;
     for p in 0..roll.practices() {
@@ -28,16 +28,16 @@ fn put_places<R: Roll>(roll: &R, out: &mut [u8])
 }
 
 pub(crate) fn put_practices<R: Roll>(roll: &R, out: &mut [u8])
-    requires { length out.old ≡ length (section pair (entries roll.now).places) }
-    ensures { out.new ≡ section pair (entries roll.now).places }
+    requires { length out.old ≡ length (section pair (R.entries roll.now).places) }
+    ensures { out.new ≡ section pair (R.entries roll.now).places }
 {
     put_pair(roll.practices(), &mut out[0..2]);
     put_places(roll, &mut out[2..]);
 }
 
 pub(crate) fn put_trainees<R: Roll>(roll: &R, out: &mut [u8])
-    requires { length out.old ≡ length (section measured (entries roll.now).lists) }
-    ensures { out.new ≡ section measured (entries roll.now).lists }
+    requires { length out.old ≡ length (section measured (R.entries roll.now).lists) }
+    ensures { out.new ≡ section measured (R.entries roll.now).lists }
 {
     put_pair(roll.trainees(), &mut out[0..2]);
     put_lists(roll, &mut out[2..]);

@@ -17,9 +17,9 @@ use sheet::opening::open;
 // Each section goes into the buffer behind the one before it.
 fn put_sheet<R: Roll>(roll: &R, filing: &[u8], out: &mut [u8]) -> usize
     requires few { length filing.now ≤ 400 }
-    requires room { length (sheet (entries roll.now) filing.now) ≤ length out.old }
-    ensures end { result ≡ length (sheet (entries roll.now) filing.now) }
-    ensures bytes { out.new ≡ over (sheet (entries roll.now) filing.now) out.old }
+    requires room { length (sheet (R.entries roll.now) filing.now) ≤ length out.old }
+    ensures end { result ≡ length (sheet (R.entries roll.now) filing.now) }
+    ensures bytes { out.new ≡ over (sheet (R.entries roll.now) filing.now) out.old }
 {
     let one = 2 + 2 * roll.practices() as usize;
     let two = one + 2 + lists_length(roll);
@@ -32,9 +32,9 @@ fn put_sheet<R: Roll>(roll: &R, filing: &[u8], out: &mut [u8]) -> usize
 
 // What is written reads as the entries of the roll and the filing, and opens as them.
 pub fn write<R: Roll>(roll: &R, filing: &[u8], buffer: &mut [u8]) -> Result<usize, Refusal>
-    ensures outcome { write_outcome (entries roll.now) filing.now buffer.old ≡ (result, buffer.new) }
-    ensures reads { (n : ℕ) → result ≡ Ok n → reading (take n buffer.new) ≡ Ok (entries roll.now, filing.now) }
-    ensures opens { (n : ℕ) → result ≡ Ok n → opened (take n buffer.new) ≡ (entries roll.now, filing.now) }
+    ensures outcome { write_outcome (R.entries roll.now) filing.now buffer.old ≡ (result, buffer.new) }
+    ensures reads { (n : ℕ) → result ≡ Ok n → reading (take n buffer.new) ≡ Ok (R.entries roll.now, filing.now) }
+    ensures opens { (n : ℕ) → result ≡ Ok n → opened (take n buffer.new) ≡ (R.entries roll.now, filing.now) }
 {
     match write_refusal(roll, filing, buffer.len()) {
         Some(refusal) => Err(refusal),

@@ -1,4 +1,6 @@
 // Text for people: lines with a refusal, a count, or a trainee and a seat.
+#![tactic(auto)]
+
 pub mod lines;
 pub mod put;
 pub mod text;

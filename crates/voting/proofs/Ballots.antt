@@ -5,7 +5,7 @@ use Rattle.std.proofs.lemmas.Bool.Decides.{nat_tests}
 use Rattle.rules.specs.Meaning.{Entries, trainees, list_of}
 use Rattle.voting.specs.Totals.{one}
 use Rattle.voting.specs.Placements.{Seat, Placement, Allowed, Feasible}
-use Rattle.voting.specs.Votes.{prefers, votes, majority, Unbeaten, Strongest}
+use Rattle.voting.specs.Votes.{prefers, votes, Unbeaten, Strongest}
 use Rattle.voting.specs.Weights.{weight, Heaviest}
 use Rattle.voting.specs.Ballots.{ballot}
 use Rattle.voting.proofs.Totals.{total_add, total_same, total_one}

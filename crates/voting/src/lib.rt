@@ -1,4 +1,6 @@
 // Placements and votes: the definitions, and the theorems about them, each on the contract of a function.
+#![tactic(auto)]
+
 ghost use Rattle.voting.specs.Local.{LocalDescription};
 ghost use Rattle.voting.specs.Weights.{PricesCertify};
 ghost use Rattle.voting.specs.Worked.{WorkedRounds};

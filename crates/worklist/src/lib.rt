@@ -1,4 +1,6 @@
 // The work list: records in slots that the caller lends, used round and round.
+#![tactic(auto)]
+
 ghost use Rattle.std.specs.Prelude.{◌-◌, ◌≤◌, length};
 
 mod calls;

@@ -6,5 +6,5 @@ pub returns-in-Ok : goal.returns-in-Ok
 returns-in-Ok g c =
     let roll = c.args.roll.now in
     let gave = c.in-Ok.ensures in
-    verdict_placed (g.R.Roll.entries roll) (g.R.Roll.lawful roll) gave.0 gave.1 _ c.allot-all.new.seats c.in-Ok.seated c.trainees.result gave.2 c.trainees.ensures
-    (text c.args.text.now) (text c.put-placement.new.text) c.put-placement.ensures
+    verdict_placed (g.R.Roll.entries roll) (g.R.Roll.lawful roll) gave.0 gave.1 _ c.allot_all.new.seats c.in-Ok.seated c.trainees.result gave.2 c.trainees.ensures
+    (text c.args.text.now) (text c.put_placement.new.text) c.put_placement.ensures

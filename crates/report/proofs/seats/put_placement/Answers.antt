@@ -6,6 +6,6 @@ use Rattle.report.proofs.seats.put_placement.Goals as goal
 
 pub returns : goal.returns
 returns c =
-    placement_put (text c.args.text.now) (text c.put.new.self) (text c.put_number.new.self) (text c.put-2.new.self) (text c.put-number-2.new.self) (text c.push.new.self) (text c.put-seats.new.text)
+    placement_put (text c.args.text.now) (text c.put.new.self) (text c.put_number.new.self) (text c.put-2.new.self) (text c.put_number-2.new.self) (text c.push.new.self) (text c.put_seats.new.text)
     c.args.seated (length c.args.seats.now) (offered_by c.args.seats.now)
-    c.put.ensures c.put_number.ensures.after c.put-2.ensures c.put-number-2.ensures.after c.push.ensures c.put-seats.ensures
+    c.put.ensures c.put_number.ensures.after c.put-2.ensures c.put_number-2.ensures.after c.push.ensures c.put_seats.ensures

@@ -9,7 +9,7 @@ returns c =
     record {
       short = c.put_number.ensures.short;
       after =
-          rival_put (text c.args.text.now) (text c.put.new.self) (text c.put_number.new.self) (text c.push.new.self) (text c.put-seats.new.text)
+          rival_put (text c.args.text.now) (text c.put.new.self) (text c.put_number.new.self) (text c.push.new.self) (text c.put_seats.new.text)
           c.args.majority (length c.args.seats.now) (offered_by c.args.seats.now)
-          c.put.ensures c.put_number.ensures.after c.push.ensures c.put-seats.ensures;
+          c.put.ensures c.put_number.ensures.after c.push.ensures c.put_seats.ensures;
     }

@@ -12,9 +12,9 @@ loop-t-init c = kept_text c.args.text.now.bytes c.args.text.now.len c.args.text.
 
 pub loop-t-preserved : goal.loop-t-preserved
 loop-t-preserved c =
-    line_more (text c.args.text.now) (text c.loop-t.text) (text c.put-seat-line.new.self) c.loop-t.t (offered_by c.args.seats.now)
+    line_more (text c.args.text.now) (text c.loop-t.text) (text c.put_seat_line.new.self) c.loop-t.t (offered_by c.args.seats.now)
     c.loop-t.invariant
-    (c.put-seat-line.ensures ∙
+    (c.put_seat_line.ensures ∙
     ap (λ s. kept (text c.loop-t.text ++ line (seat_words c.loop-t.t s)))
     (c.seat_of_byte.ensures ∙ ap seat_of_byte (get_or_default c.args.seats.now c.loop-t.t 0 255 c.loop-t-test.true)))
 

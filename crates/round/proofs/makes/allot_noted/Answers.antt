@@ -7,8 +7,8 @@ pub note-requires : goal.note-requires
 note-requires g c =
     let law = g.R.Roll.lawful c.args.round.now.register in
     let before = seen g.R.Roll.entries g.R.Terms.rules c.args.round.now in
-    let after = seen g.R.Roll.entries g.R.Terms.rules c.allot-with.new.round in
+    let after = seen g.R.Roll.entries g.R.Terms.rules c.allot_with.new.round in
     record {
       short = omega (arith, c.requires, law.few_trainees);
-      narrow = narrow before after c.args.w c.args.k c.in-ok-seated.seated law c.in-ok-seated.ensures.exact;
+      narrow = narrow before after c.args.w c.args.k c.in_ok-seated.seated law c.in_ok-seated.ensures.exact;
     }

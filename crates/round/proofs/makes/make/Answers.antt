@@ -32,15 +32,15 @@ returns-in-Places g c =
 pub returns-in-Allot : goal.returns-in-Allot
 returns-in-Allot g c =
     let n = trainees (g.R.Roll.entries c.args.round.now.register) in
-    let after = seen g.R.Roll.entries g.R.Terms.rules c.allot-noted.new.round in
+    let after = seen g.R.Roll.entries g.R.Terms.rules c.allot_noted.new.round in
     let b = c.args.room.now in
-    let r = c.allot-noted.new.room in
-    let a = c.allot-noted.result in
+    let r = c.allot_noted.new.room in
+    let a = c.allot_noted.result in
     let w = c.in-Allot.w in
     let k = c.in-Allot.k in
     let e = allots w k (given a after) in
     let l : length b ≡ n = c.requires ∙ ap (room_of n) c.in-Allot.is in
-    (e, subst (λ q. Line n q (Allotted a) b r e) (sym c.in-Allot.is) (noted_line n w k a after b r l c.allot-noted.ensures.room), c.allot-noted.ensures.law)
+    (e, subst (λ q. Line n q (Allotted a) b r e) (sym c.in-Allot.is) (noted_line n w k a after b r l c.allot_noted.ensures.room), c.allot_noted.ensures.law)
 
 pub returns-in-Seat : goal.returns-in-Seat
 returns-in-Seat g c =
@@ -55,8 +55,8 @@ pub returns-in-Challenge : goal.returns-in-Challenge
 returns-in-Challenge g c =
     let n = trainees (g.R.Roll.entries c.args.round.now.register) in
     let b = c.args.room.now in
-    let r = c.challenge_answer.new.rival in
-    let a = c.challenge_answer.result in
+    let r = c.challenge-answer.new.rival in
+    let a = c.challenge-answer.result in
     let o = c.in-Challenge.offered in
     let e = challenges o.now b a r in
-    (e, subst (λ q. Line n q (Challenged a) b r e) (sym c.in-Challenge.is) (challenged o c.in-Challenge.field-1 a b r), c.challenge_answer.ensures.law)
+    (e, subst (λ q. Line n q (Challenged a) b r e) (sym c.in-Challenge.is) (challenged o c.in-Challenge.field-1 a b r), c.challenge-answer.ensures.law)

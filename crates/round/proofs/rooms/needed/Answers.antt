@@ -6,7 +6,7 @@ use Rattle.round.proofs.rooms.needed.Goals as goal
 
 pub loop-i-preserved : goal.loop-i-preserved
 loop-i-preserved c =
-    needed_more c.args.trainees c.args.script.now c.loop-i.i c.loop-i.n c.room-for.result c.saturating-add-n.result _ c.loop-i-test.true c.loop-i.invariant c.room-for.ensures c.saturating-add-n.ensures
+    needed_more c.args.trainees c.args.script.now c.loop-i.i c.loop-i.n c.room_for.result c.saturating_add-n.result _ c.loop-i-test.true c.loop-i.invariant c.room_for.ensures c.saturating_add-n.ensures
 
 pub returns : goal.returns
 returns c = c.loop-i.invariant ∙ ap (λ s. min (rooms c.args.trainees s) (2 ^ 64 - 1)) (take_all c.loop-i.i c.args.script.now c.loop-i-test.false)

@@ -1,4 +1,4 @@
-use Rattle.std.proofs.Common.{◌≡◌, ℕ, ◌<◌, ◌≤◌, length, get_or, sym, refl, ap, ◌∙◌, arith}
+use Rattle.std.proofs.Common.{length, sym, arith}
 use Rattle.rules.specs.Questions.{numbers}
 use Rattle.rules.proofs.Numbers.{number, length_numbers}
 use Rattle.row_register.proofs.Rowing.{choice_write, row_made}

@@ -3,8 +3,8 @@ use Rattle.rules.specs.Meaning.{list_of}
 use Rattle.sheet_writer.proofs.Rolls.{choice_some, choice_none, choice_small}
 use Rattle.sheet_writer.proofs.lists.choice_byte.Goals as goal
 
-pub overflow-cast-result : goal.overflow-cast-result
-overflow-cast-result g c =
+pub overflow_cast-result : goal.overflow_cast-result
+overflow_cast-result g c =
     let e = g.R.Roll.entries c.args.roll.now in
     let t = c.args.t.0 in
     let small = choice_small e (g.R.Roll.lawful c.args.roll.now) t c.args.k c.requires in

@@ -6,10 +6,10 @@ use Rattle.sheet.specs.Format.{measured}
 use Rattle.sheet_writer.proofs.Parts.{length_next}
 use Rattle.sheet_writer.proofs.lists.lists_length.Goals as goal
 
-pub overflow-add-total-in-loop-t : goal.overflow-add-total-in-loop-t
-overflow-add-total-in-loop-t g c =
+pub overflow_add-total-in-loop-t : goal.overflow_add-total-in-loop-t
+overflow_add-total-in-loop-t g c =
     let law = g.R.Roll.lawful c.args.roll.now in
-    let h : c.loop-t.total + (1 + c.list-length.result) ≤ 6000 = omega (arith, c.loop-t.invariant.1, c.list-length.type-inv, c.trainees-t-end.ensures, law.few_trainees) in
+    let h : c.loop-t.total + (1 + c.list_length.result) ≤ 6000 = omega (arith, c.loop-t.invariant.1, c.list_length.type_inv, c.trainees-t-end.ensures, law.few_trainees) in
     search rules
 
 pub loop-t-preserved : goal.loop-t-preserved
@@ -18,7 +18,7 @@ loop-t-preserved g c =
     let t = c.loop-t.t in
     let short = (strict_of e (g.R.Roll.lawful c.args.roll.now) t).short in
     let within : t < length e.lists = omega (arith, c.trainees-t-end.ensures) in
-    (omega (arith, c.loop-t.invariant.0, length_next measured [] e.lists t within, c.list-length.ensures), omega (arith, c.loop-t.invariant.1, short, c.list-length.ensures))
+    (omega (arith, c.loop-t.invariant.0, length_next measured [] e.lists t within, c.list_length.ensures), omega (arith, c.loop-t.invariant.1, short, c.list_length.ensures))
 
 pub returns : goal.returns
 returns g c =

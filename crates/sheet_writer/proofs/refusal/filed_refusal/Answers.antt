@@ -22,7 +22,7 @@ loop-t-preserved c =
     let t = c.loop-t.t in
     let m = c.args.practices in
     let step = filed_next m t f (omega arith) in
-    ap (λ (o : Option Reason). filed_or o t (filed_refusal m (t + 1) (drop (t + 1) f))) c.in-default.ensures
+    ap (λ (o : Option Reason). filed_or o t (filed_refusal m (t + 1) (drop (t + 1) f))) c.in_default.ensures
     ∙ sym step
     ∙ c.loop-t.invariant
 

@@ -7,8 +7,8 @@ use Rattle.sheet_writer.specs.Over.{over}
 use Rattle.sheet_writer.proofs.Parts.{behind, filled, joined_next}
 use Rattle.sheet_writer.proofs.sections.put_places.Goals as goal
 
-pub slice-bounds-put-pair-end : goal.slice-bounds-put-pair-end
-slice-bounds-put-pair-end g c =
+pub slice_bounds-put_pair-end : goal.slice_bounds-put_pair-end
+slice_bounds-put_pair-end g c =
     let ps = (g.R.Roll.entries c.args.roll.now).places in
     let h : c.loop-p.at + 2 ≤ length c.args.out.now = omega (arith, c.loop-p.invariant.0, c.practices-p-end.ensures, length_pairs ps, c.requires) in
     search rules
@@ -23,8 +23,8 @@ loop-p-preserved g c =
     let lt = length-take-le p ps (omega arith) in
     let l : length (flat_map pair (take p ps)) ≡ at = omega (arith, length_pairs (take p ps), c.loop-p.invariant.0) in (
       omega (arith, c.loop-p.invariant.0),
-      behind (flat_map pair (take p ps)) (pair c.places-of.result) E c.loop-p.out c.put-pair.new.out at (at + 2 - at) l (omega arith) c.loop-p.invariant.1 c.put-pair.ensures
-          ∙ ap (λ (v : ℕ). over (flat_map pair (take p ps) ++ pair v) E) c.places-of.ensures
+      behind (flat_map pair (take p ps)) (pair c.places_of.result) E c.loop-p.out c.put_pair.new.out at (at + 2 - at) l (omega arith) c.loop-p.invariant.1 c.put_pair.ensures
+          ∙ ap (λ (v : ℕ). over (flat_map pair (take p ps) ++ pair v) E) c.places_of.ensures
           ∙ ap (λ (s : List ℕ). over s E) (joined_next pair 0 ps p within),
     )
 

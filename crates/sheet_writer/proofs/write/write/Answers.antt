@@ -3,8 +3,8 @@ use Rattle.sheet_writer.proofs.Refused.{writable, few_filed}
 use Rattle.sheet_writer.proofs.Trips.{trip_refused, trip_written}
 use Rattle.sheet_writer.proofs.write.write.Goals as goal
 
-pub put-sheet-requires : goal.put-sheet-requires
-put-sheet-requires g c =
+pub put_sheet-requires : goal.put_sheet-requires
+put_sheet-requires g c =
     let e = g.R.Roll.entries c.args.roll.now in
     let f = c.args.filing.now in
     let w = writable e f (length c.args.buffer.now) (sym c.in-None.ensures) in
@@ -18,5 +18,5 @@ returns-in-Some g c =
 pub returns-in-None : goal.returns-in-None
 returns-in-None g c =
     let t =
-    trip_written (g.R.Roll.entries c.args.roll.now) c.args.filing.now c.args.buffer.now c.put-sheet.new.out c.put-sheet.result (g.R.Roll.lawful c.args.roll.now) c.in-None.ensures c.put-sheet.ensures.end c.put-sheet.ensures.bytes in
+    trip_written (g.R.Roll.entries c.args.roll.now) c.args.filing.now c.args.buffer.now c.put_sheet.new.out c.put_sheet.result (g.R.Roll.lawful c.args.roll.now) c.in-None.ensures c.put_sheet.ensures.end c.put_sheet.ensures.bytes in
     record { outcome = t.outcome; reads = t.reads; opens = t.opens }

@@ -1,10 +1,8 @@
-use Rattle.std.proofs.Common.{◌≡◌, ℕ, ◌*◌, List, length, replicate, sym, refl, ap, ◌∙◌, arith}
-use Rattle.rules.specs.Meaning.{Entries, Meaning}
+use Rattle.std.proofs.Common.{◌*◌, length, replicate, sym, refl, ap, ◌∙◌, arith}
+use Rattle.rules.specs.Meaning.{Entries}
 use Rattle.rules.proofs.Outcomes.{none_from_ok, some_from_err}
 use Rattle.opening.specs.Opening.{opened, plain_rules}
 use Rattle.opening.proofs.Opened.{roomy}
-use Rattle.rank_grid.specs.Reading.{entries_of}
-use Rattle.rank_grid.specs.Kept.{ranked_from}
 use Rattle.rank_grid.proofs.Gridded.{ranked_opened, entries_opened, held, cleared_zero, length_cleared, cleared_beyond}
 use Rattle.rank_grid.proofs.grid.RankGrid.open.Goals as goal
 

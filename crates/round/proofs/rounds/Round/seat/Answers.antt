@@ -19,10 +19,10 @@ pub returns-then-not-self : goal.returns-then-not-self
 returns-then-not-self g c =
     let s = seen g.R.Roll.entries g.R.Terms.rules c.args.self.now in
     let t = c.args.t.0 in
-    let r = c.of-round-then-not-self.result in
+    let r = c.of_round-then-not-self.result in
     let seats = c.args.self.now.table.seats in
     let a : Err r ≡ seat_answer s t =
-    ap (λ x. Err x) c.of-round-then-not-self.ensures ∙
+    ap (λ x. Err x) c.of_round-then-not-self.ensures ∙
     sym (to_trainee s t (omega (arith, c.trainees.ensures, c.if-t-trainees.false)) ∙ ap (λ b. seat_in (shown b seats) t) c.if-not-self.true) in
     record { exact = a; law = goes_on s (asks_seat t (Err r)) s (a, refl) }
 

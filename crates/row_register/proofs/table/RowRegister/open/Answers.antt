@@ -1,4 +1,4 @@
-use Rattle.std.proofs.Common.{◌≡◌, length, replicate, sym, refl, ap, ◌∙◌, arith}
+use Rattle.std.proofs.Common.{length, replicate, sym, refl, ap, ◌∙◌, arith}
 use Rattle.rules.specs.Meaning.{Entries}
 use Rattle.rules.proofs.Outcomes.{none_from_ok, some_from_err}
 use Rattle.opening.specs.Opening.{opened, plain_rules}

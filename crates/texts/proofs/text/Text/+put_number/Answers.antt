@@ -1,4 +1,4 @@
-use Rattle.std.proofs.Common.{◌≡◌, ◌+◌, ◌%◌, [], ◌∷◌, ◌++◌, ap, ◌∙◌, lt_of_lt_of_le, mod-eq_of_lt, arith, lit≤}
+use Rattle.std.proofs.Common.{◌+◌, ◌%◌, [], ◌∷◌, ◌++◌, ap, ◌∙◌, lt_of_lt_of_le, mod-eq_of_lt, arith, lit≤}
 use Rattle.std.proofs.lemmas.Fmt.{length-decimal-le}
 use Rattle.texts.specs.Text.{text, kept}
 use Rattle.texts.proofs.Spelling.{digit_put, digits_put}

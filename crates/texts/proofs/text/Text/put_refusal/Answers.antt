@@ -1,4 +1,4 @@
-use Rattle.std.proofs.Common.{◌≡◌, ◌≤◌, ◌++◌, length, decimal, ap, ◌∙◌, subst}
+use Rattle.std.proofs.Common.{◌≤◌, ◌++◌, length, decimal, ap, ◌∙◌, subst}
 use Rattle.texts.specs.Text.{text, kept}
 use Rattle.texts.proofs.Spelling.{refusal_put, refusal_short}
 use Rattle.texts.proofs.text.Text.put_refusal.Goals as goal

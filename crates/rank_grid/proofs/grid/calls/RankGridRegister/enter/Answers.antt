@@ -1,7 +1,6 @@
-use Rattle.std.proofs.Common.{◌≡◌, ℕ, List, length, None, Ok, sym, refl, ap, ◌∙◌, arith, Bor, MutBor}
-use Rattle.rules.specs.Meaning.{Entries, Meaning, with_list}
+use Rattle.std.proofs.Common.{ℕ, List, length, Ok, sym, refl, ap, ◌∙◌, arith, MutBor}
+use Rattle.rules.specs.Meaning.{Entries, with_list}
 use Rattle.rules.specs.Questions.{numbers}
-use Rattle.rules.specs.Refusals.{entry_refusal}
 use Rattle.rules.proofs.Outcomes.{none_from_ok, some_from_err, outcome_none, outcome_some}
 use Rattle.rank_grid.specs.Ranks.{holding}
 use Rattle.rank_grid.specs.Reading.{written, entries_of}

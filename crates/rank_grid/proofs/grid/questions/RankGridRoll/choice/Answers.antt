@@ -1,4 +1,4 @@
-use Rattle.std.proofs.Common.{◌≡◌, sym, refl, ap, ◌∙◌, ⊎_elim, arith, below_more}
+use Rattle.std.proofs.Common.{⊎_elim, arith, below_more}
 use Rattle.std.proofs.lemmas.Bool.{le-ltb}
 use Rattle.rank_grid.proofs.Standing.{stands}
 use Rattle.rank_grid.proofs.Gridded.{list_past, choice_found, choice_absent, choice_far}

@@ -1,5 +1,5 @@
-use Rattle.std.proofs.Common.{◌≡◌, ℕ, ◌+◌, max, [], length, get_or, sym, refl, ap, ◌∙◌, arith}
-use Rattle.rank_grid.specs.Reading.{greatest, cell, where_is, list_in, lists_of}
+use Rattle.std.proofs.Common.{◌≡◌, ℕ, ◌+◌, max, length, get_or, sym, ap, ◌∙◌, arith}
+use Rattle.rank_grid.specs.Reading.{greatest, cell, where_is}
 use Rattle.rank_grid.proofs.Ranking.{greatest_more}
 use Rattle.std.proofs.lemmas.List.FromFn.{length-map-range_with_len}
 use Rattle.rank_grid.proofs.Gridded.{list_at, list_past}

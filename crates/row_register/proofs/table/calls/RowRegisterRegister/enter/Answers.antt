@@ -1,11 +1,11 @@
-use Rattle.std.proofs.Common.{◌≡◌, ℕ, List, length, set, Ok, sym, refl, ap, ◌∙◌, arith, length-set}
+use Rattle.std.proofs.Common.{List, set, Ok, sym, refl, ap, ◌∙◌, arith, length-set}
 use Rattle.std.proofs.lemmas.Result.{err_from_is_err_and}
 use Rattle.rules.specs.Meaning.{Entries, with_list}
 use Rattle.rules.specs.Questions.{numbers}
 use Rattle.rules.proofs.Numbers.{length_numbers}
 use Rattle.rules.proofs.Outcomes.{none_from_ok, some_from_err, outcome_none, outcome_some}
 use Rattle.row_register.specs.declared.row.Row.{Row}
-use Rattle.row_register.specs.Rows.{row_of, holding}
+use Rattle.row_register.specs.Rows.{holding}
 use Rattle.row_register.specs.Reading.{entries_of}
 use Rattle.row_register.specs.Table.{row_meaning}
 use Rattle.row_register.proofs.Standing.{let_in, held_still}

@@ -1,4 +1,4 @@
-use Rattle.std.proofs.Common.{◌≡◌, ℕ, List, length, sym, ap, ◌∙◌}
+use Rattle.std.proofs.Common.{ℕ, List, length, sym, ap, ◌∙◌}
 use Rattle.row_register.specs.Reading.{row_at}
 use Rattle.row_register.proofs.Rowing.{list_past, length_row}
 use Rattle.row_register.proofs.Standing.{neat_at, shown_at}

@@ -1,4 +1,4 @@
-use Rattle.std.proofs.Common.{◌≡◌, ℕ, List, sym, ap, ◌∙◌, arith, below_more}
+use Rattle.std.proofs.Common.{ℕ, List, sym, ap, ◌∙◌, arith}
 use Rattle.rules.specs.Questions.{position_in}
 use Rattle.row_register.specs.Reading.{row_at}
 use Rattle.row_register.proofs.Rowing.{list_past, position_found, position_absent}
