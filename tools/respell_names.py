@@ -26,7 +26,7 @@ def spelled(name):
     """The new spelling of one name."""
     name = name.replace("getD", "get_or")
     if re.match(r"[A-Z]", name):
-        return "".join(w[:1].upper() + w[1:] for w in name.split("-"))
+        return "".join(w[:1].upper() + w[1:] for w in re.split("[-_]", name))
     name = re.sub(r"([a-z])([A-Z])", r"\1_\2", name.replace("-", "_"))
     return re.sub(r"_([A-Z])(?=_|$)", lambda m: "_" + m.group(1).lower(), name)
 
@@ -39,16 +39,14 @@ def declared():
         for line in open(f, encoding="utf-8"):
             line = code(line.rstrip("\n"), "--")[0]
             m = DECLARED.match(line)
-            if not m or not re.search(r"\w-\w|[a-z][A-Z]", m.group(1)):
+            if not m or not re.search(r"\w-\w|[a-z][A-Z]|^[A-Z].*_", m.group(1)):
                 continue
             a = ALONE.match(line)
             if made and a and "goal." in a.group(2):
                 continue
             if not made and a and "goal." in a.group(2):
                 continue
-            if re.match(r"[A-Z]", m.group(1)) and "-" not in m.group(1):
-                continue
-            if re.search(r"^\w+ c\b", m.group(1)):
+            if re.match(r"[A-Z]", m.group(1)) and not re.search("[-_]", m.group(1)):
                 continue
             own.setdefault(m.group(1), set()).add(f)
     for f in sources():

@@ -107,7 +107,7 @@ fn enter(words: &mut Words<'_>, kept: &mut Kept, most: usize) -> Result<Line, Al
 
 // The byte of an offered seat: a practice, or - for no seat.
 fn seat_byte(word: &[u8]) -> Option<u8> {
-    if word == b"-" {
+    if word == b"-".as_slice() {
         return Some(255);
     }
     match u8::try_from(number(word)?) {
@@ -140,10 +140,10 @@ pub fn read(line: &[u8], kept: &mut Kept) -> Result<Line, AllocError> {
     if first.is_empty() {
         return Ok(Line::Empty);
     }
-    if first == b"enter" {
+    if first == b"enter".as_slice() {
         return enter(&mut words, kept, line.len());
     }
-    if first == b"challenge" {
+    if first == b"challenge".as_slice() {
         return challenge(&mut words, kept, line.len());
     }
     Ok(read_short(first, &mut words))

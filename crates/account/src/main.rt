@@ -1,4 +1,6 @@
 // Reads a script of calls from standard input, one to a line, and prints the account.
+#![tactic(auto)]
+
 mod calls;
 mod lines;
 mod pile;

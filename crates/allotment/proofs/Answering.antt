@@ -1,11 +1,11 @@
 -- What the engine answers, and what the calls answer then.
-use Rattle.std.proofs.Common.{◌≡◌, ℕ, ◌≤◌, Bool, true, false, ◌&&◌, eqb, leb, ◌⊎◌, List, length, Some, None, Ok, Err, Option, Result, sym, refl, ap, ◌∙◌, subst, ap₂, ⊎_elim, arith}
+use Rattle.std.proofs.Common.{◌≡◌, ℕ, ◌≤◌, Bool, true, false, ◌&&◌, eqb, leb, List, length, Some, None, Ok, Err, Option, Result, sym, refl, ap, ◌∙◌, subst, ap₂, ⊎_elim, arith}
 use Rattle.std.proofs.lemmas.Bool.{both_ways, cond-true, cond-false, and_from, and_cases, le-leb}
 use Rattle.rules.specs.declared.words.Refusal.{Refusal}
 use Rattle.rules.specs.declared.words.Reason.TheVariants.{WrongLength, NotFeasible}
 use Rattle.rules.specs.Words.{of_round}
 use Rattle.rules.specs.Meaning.{Entries, trainees}
-use Rattle.voting.specs.Placements.{Placement, seating, seated}
+use Rattle.voting.specs.Placements.{Placement, seating}
 use Rattle.assignment.specs.declared.table.Table.{Table}
 use Rattle.assignment.specs.declared.placed.Placed.{Placed}
 use Rattle.assignment.specs.Placing.{Best, Answer}

@@ -1,4 +1,6 @@
 // Allot and challenge on any roll.
+#![tactic(auto)]
+
 mod by_ballots;
 mod by_firsts;
 pub mod bytes;

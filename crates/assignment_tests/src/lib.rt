@@ -1,3 +1,5 @@
+#![tactic(auto)]
+
 // Runs of the work list and of the engine on examples.
 #[cfg(test)]
 mod tests {

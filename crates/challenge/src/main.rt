@@ -1,4 +1,6 @@
 // Reads a sheet from standard input and prints the strongest rival of its filed placement.
+#![tactic(auto)]
+
 use anyhow::anyhow;
 use report::challenge::challenge_text;
 use std::io::Read;

@@ -1,4 +1,6 @@
 // Reads a sheet from standard input and prints its report.
+#![tactic(auto)]
+
 use anyhow::anyhow;
 use report::report::report;
 use std::io::Read;

@@ -1,5 +1,5 @@
 -- What a list entered in a register just opened leaves in the memory.
-use Rattle.std.proofs.Common.{◌≡◌, ℕ, List, Result, sym, refl, ap, ◌∙◌, length-set}
+use Rattle.std.proofs.Common.{◌≡◌, ℕ, List, Result, sym, refl, ap, ◌∙◌}
 use Rattle.rules.specs.declared.words.Refusal.{Refusal}
 use Rattle.rules.specs.Meaning.{Entries, Meaning, with_list}
 use Rattle.rules.specs.Refusals.{entry_refusal, enter_outcome, outcome}

@@ -1,5 +1,5 @@
 -- One list entered in a register just opened: the answer, and what the caller's memory holds then.
-use Rattle.std.specs.Prelude.{ℕ, ◌*◌, List, length, Result}
+use Rattle.std.specs.Prelude.{ℕ, ◌*◌, List, Result}
 use Rattle.rules.specs.declared.words.Refusal.{Refusal}
 use Rattle.rules.specs.Meaning.{Meaning, with_list}
 use Rattle.rules.specs.Refusals.{entry_refusal, outcome}

@@ -1,3 +1,5 @@
+#![tactic(auto)]
+
 // Registers over lent memory and piles of layers, as a caller has them.
 #[cfg(test)]
 mod asked;

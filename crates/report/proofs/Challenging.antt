@@ -1,12 +1,12 @@
 -- From what challenge told to the text of the rival.
-use Rattle.std.proofs.Common.{◌≡◌, ℕ, ◌+◌, ◌*◌, ◌<◌, ◌≤◌, List, [], ◌∷◌, ◌++◌, length, drop, Some, None, Ok, Err, codes, decimal, Option, sym, refl, ap, ◌∙◌, subst, ap₂, arith}
+use Rattle.std.proofs.Common.{◌≡◌, ℕ, ◌≤◌, List, ◌++◌, length, Some, None, Ok, Err, codes, decimal, Option, sym, refl, ap, ◌∙◌, subst, ap₂, arith}
 use Rattle.std.proofs.lemmas.List.{length-append, length_push, append-nil, drop_all}
 use Rattle.rules.specs.declared.words.Refusal.{Refusal}
 use Rattle.rules.specs.Meaning.{Entries, Lawful, trainees}
 use Rattle.voting.specs.Placements.{Placement, Feasible}
 use Rattle.sheet.specs.Opened.{read_or_nobody}
 use Rattle.sheet.specs.Told.{accepted}
-use Rattle.allotment.specs.Bytes.{bytes_of, offered_by, written}
+use Rattle.allotment.specs.Bytes.{bytes_of, offered_by}
 use Rattle.allotment.specs.Calls.{Rival, challenge_refusal, challenge_answer, challenge_outcome}
 use Rattle.texts.specs.Text.{kept}
 use Rattle.texts.specs.Lines.{line, refusal_words, seat_lines, rival_lines}

@@ -1,5 +1,5 @@
 -- From what allot told to the text of the report.
-use Rattle.std.proofs.Common.{◌≡◌, ℕ, ◌+◌, ◌-◌, ◌*◌, ◌<◌, ◌≤◌, true, false, leb, List, [], ◌∷◌, ◌++◌, length, take, drop, Some, None, Ok, Err, codes, decimal, Option, Result, sym, refl, ap, ◌∙◌, subst, ap₂, arith}
+use Rattle.std.proofs.Common.{◌≡◌, ℕ, ◌-◌, ◌<◌, ◌≤◌, List, ◌++◌, length, take, drop, Some, None, Ok, Err, codes, decimal, Option, Result, sym, ap, ◌∙◌, ap₂, arith}
 use Rattle.std.proofs.lemmas.Fmt.{length-decimal-le}
 use Rattle.std.proofs.lemmas.List.{length-append, length_push}
 use Rattle.std.proofs.lemmas.List.FromFn.{length-map-range_with_len}
@@ -12,7 +12,6 @@ use Rattle.voting.specs.Placements.{Seat, Placement, Feasible, placed, seated}
 use Rattle.voting.specs.Totals.{one}
 use Rattle.voting.proofs.Totals.{total_le, total_one, one_le}
 use Rattle.voting.proofs.Certificate.{Within, within}
-use Rattle.sheet.specs.Filing.{Filing}
 use Rattle.sheet.specs.Opened.{read_or_nobody}
 use Rattle.sheet.specs.Told.{accepted}
 use Rattle.allotment.specs.Bytes.{byte_of_seat, bytes_of, offered_by, written}

@@ -1,3 +1,5 @@
+#![tactic(auto)]
+
 // The worked rounds and damaged sheets, through the report and the challenge text.
 #[cfg(test)]
 mod tests {

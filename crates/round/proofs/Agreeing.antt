@@ -1,9 +1,9 @@
 -- Placements that agree on every trainee are the same to the vote.
-use Rattle.std.proofs.Common.{◌≡◌, ℕ, zero, suc, ◌+◌, ◌<◌, ◌≤◌, Bool, ℤ, pos, ◌-ℤ◌, ◌≤ℤ◌, sym, refl, ap, ◌∙◌, subst, arith}
-use Rattle.rules.specs.Meaning.{Entries, trainees, list_of, places_of}
+use Rattle.std.proofs.Common.{◌≡◌, ℕ, zero, suc, ◌<◌, Bool, pos, ◌-ℤ◌, ◌≤ℤ◌, sym, refl, ap, ◌∙◌, subst, arith}
+use Rattle.rules.specs.Meaning.{Entries, trainees, list_of}
 use Rattle.voting.specs.Totals.{one, many}
-use Rattle.voting.specs.Placements.{Placement, Allowed, Feasible, sits, placed, seated, seated_at}
-use Rattle.voting.specs.Votes.{prefers, votes, majority, Beats, Unbeaten, Fullest}
+use Rattle.voting.specs.Placements.{Placement, Allowed, Feasible, sits, placed, seated}
+use Rattle.voting.specs.Votes.{prefers, votes, majority, Fullest}
 
 many_same : (n : ℕ) (f g : ℕ → Bool) → ((t : ℕ) → t < n → f t ≡ g t) → many n f ≡ many n g
 many_same zero f g h = refl

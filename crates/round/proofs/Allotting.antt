@@ -1,16 +1,15 @@
 -- What a round does with what is found.
-use Rattle.std.proofs.Common.{◌≡◌, ℕ, ◌<◌, ◌≤◌, min, Bool, true, false, cond, ◌&&◌, leb, ◌⊎◌, List, is_some, Some, None, Ok, Err, count_by, Option, Result, sym, refl, ap, ◌∙◌, subst, inl, inr, arith, le-leb}
+use Rattle.std.proofs.Common.{◌≡◌, ℕ, ◌<◌, ◌≤◌, min, Bool, true, false, cond, ◌&&◌, leb, ◌⊎◌, is_some, Some, None, Ok, Err, count_by, Option, Result, sym, refl, ap, ◌∙◌, subst, inl, inr, arith, le-leb}
 use Rattle.std.proofs.lemmas.Bool.{cases_lt}
 use borrow.Author.Tests.{lt-leb}
-use Rattle.rules.specs.declared.words.Practice.{Practice}
 use Rattle.rules.specs.declared.words.Refusal.{Refusal}
-use Rattle.rules.specs.declared.words.Reason.TheVariants.{WrongLength, NoneUnbeaten}
+use Rattle.rules.specs.declared.words.Reason.TheVariants.{WrongLength}
 use Rattle.rules.specs.Words.{of_round}
-use Rattle.rules.specs.Meaning.{Meaning, Entries, trainees}
-use Rattle.voting.specs.Placements.{Placement, seating, seated}
+use Rattle.rules.specs.Meaning.{Entries, trainees}
+use Rattle.voting.specs.Placements.{Placement, seating}
 use Rattle.allotment.specs.declared.found.Found.{Found}
-use Rattle.allotment.specs.Calls.{enough, Decided, Finds, Verdict}
-use Rattle.round.specs.Steps.{State, on_verdict, allot_step, Allots}
+use Rattle.allotment.specs.Calls.{enough, Finds, Verdict}
+use Rattle.round.specs.Steps.{State, on_verdict, Allots}
 use Rattle.round.proofs.Counting.{taken}
 
 -- nothing is found where there are too few slots

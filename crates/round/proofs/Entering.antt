@@ -4,7 +4,7 @@ use Rattle.rules.specs.declared.words.Refusal.{Refusal}
 use Rattle.rules.specs.Meaning.{Meaning}
 use Rattle.rules.specs.Refusals.{outcome}
 use Rattle.voting.specs.Placements.{Placement}
-use Rattle.round.specs.Steps.{State, unplaced}
+use Rattle.round.specs.Steps.{unplaced}
 
 abbrev Answered : Type 0
 Answered = Result (Unit {0}) Refusal × Meaning

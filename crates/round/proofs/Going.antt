@@ -1,5 +1,5 @@
 -- The law goes on by every call.
-use Rattle.std.proofs.Common.{◌≡◌, ℕ, zero, suc, ◌+◌, ◌<◌, ◌≤◌, Bool, true, false, cond, ltb, ◌⊎◌, List, [], ◌∷◌, ◌++◌, length, take, Some, None, Ok, Err, Option, Result, sym, refl, ap, ◌∙◌, subst, inl, inr, arith, le-ltb, lt-ltb}
+use Rattle.std.proofs.Common.{◌≡◌, ℕ, ◌<◌, ◌≤◌, Bool, true, false, ◌⊎◌, List, [], ◌∷◌, length, take, Some, None, Ok, Err, Option, Result, sym, refl, ap, ◌∙◌, subst, inl, inr, arith, le-ltb, lt-ltb}
 use Rattle.std.proofs.lemmas.List.{take-append-le}
 use Rattle.std.proofs.lemmas.Bool.{cases_lt}
 use Rattle.rules.specs.declared.words.Refusal.{Refusal}
@@ -11,7 +11,7 @@ use Rattle.voting.specs.Placements.{Seat, Placement, seated}
 use Rattle.voting.specs.Votes.{Fullest, EachBeaten}
 use Rattle.allotment.specs.Calls.{enough, Verdict}
 use Rattle.round.specs.Account.{Given, Event, enters, sets_places, allots, asks_seat, challenges, at, changed, standing, given_by, settles, Stands, Refuses, Gives, Seats, Challenged, Law}
-use Rattle.round.specs.Steps.{State, unplaced, enter_step, places_step, seat_in, seat_answer, answered, seats_told, on_verdict, allot_step, Allots, given, SeatsGiven}
+use Rattle.round.specs.Steps.{State, unplaced, enter_step, places_step, seat_in, seat_answer, answered, seats_told, on_verdict, Allots, given, SeatsGiven}
 use Rattle.round.specs.Telling.{Tells, GoesOn}
 use Rattle.round.proofs.Appending.{◌and◌, length_and, at_old, at_new, at_within, take_old, standing_and, stands_old, stands_still, stands_on, stands_new, stands_which}
 use Rattle.round.proofs.Agreeing.{seated_same, fullest_same}

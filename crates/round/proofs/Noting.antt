@@ -1,12 +1,12 @@
 -- The seats given, as bytes.
-use Rattle.std.proofs.Common.{◌≡◌, ℕ, zero, suc, ◌+◌, ◌<◌, ◌≤◌, Bool, true, false, cond, eqb, ◌⊎◌, List, [], ◌∷◌, length, get_or, Some, None, Ok, Err, Option, Result, sym, refl, ap, ◌∙◌, subst, inl, inr, arith, ltb-true, eqb-true}
+use Rattle.std.proofs.Common.{◌≡◌, ℕ, ◌<◌, ◌≤◌, Bool, true, false, eqb, ◌⊎◌, List, [], ◌∷◌, length, get_or, Some, None, Ok, Err, Option, Result, sym, refl, ap, ◌∙◌, subst, inl, inr, arith, ltb-true, eqb-true}
 use Rattle.std.proofs.lemmas.Bool.{cases_lt}
 use Rattle.std.specs.Result.{result_unwrap_or}
 use Rattle.rules.specs.declared.words.Practice.{Practice}
 use Rattle.rules.specs.declared.words.Refusal.{Refusal}
-use Rattle.rules.specs.Meaning.{Meaning, Entries, Lawful, trainees, practices, list_of}
+use Rattle.rules.specs.Meaning.{Entries, Lawful, trainees, list_of}
 use Rattle.rules.specs.Questions.{position, listed}
-use Rattle.voting.specs.Placements.{Seat, Placement, Allowed, stored}
+use Rattle.voting.specs.Placements.{Allowed, stored}
 use Rattle.round.specs.Steps.{State, answered, seats_told, Allots}
 use Rattle.round.specs.Seen.{numbered}
 use Rattle.round.specs.Making.{Narrow}

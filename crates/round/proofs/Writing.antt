@@ -1,5 +1,5 @@
 -- What a script leaves, one call more.
-use Rattle.std.proofs.Common.{◌≡◌, ℕ, zero, suc, ◌+◌, ◌-◌, ◌^◌, ◌<◌, ◌≤◌, min, Bool, true, false, cond, List, [], ◌∷◌, ◌++◌, length, get_or, take, drop, set, None, Ok, Err, Result, sym, refl, ap, ◌∙◌, subst, arith, length-drop, length-set, length-take, le-leb}
+use Rattle.std.proofs.Common.{◌≡◌, ℕ, zero, suc, ◌+◌, ◌-◌, ◌^◌, ◌<◌, ◌≤◌, min, List, [], ◌∷◌, ◌++◌, length, get_or, take, drop, set, None, Ok, Err, Result, sym, refl, ap, ◌∙◌, subst, arith, length-drop, length-set, length-take, le-leb}
 use borrow.Rule.Slice.PartMut.{put_mid}
 use Rattle.std.proofs.lemmas.List.{take_more, take_more_set, take_all, drop-set-lt, drop-drop}
 use Rattle.std.proofs.lemmas.Slice.{take-put_mid, drop-put_mid}
@@ -11,7 +11,7 @@ use Rattle.round.specs.declared.script.Call.TheVariants.{Allot}
 use Rattle.round.specs.declared.script.Answer.{Answer}
 use Rattle.round.specs.declared.script.Answer.TheVariants.{Allotted}
 use Rattle.round.specs.Account.{Event, enters, sets_places, allots, asks_seat, challenges, changed, standing}
-use Rattle.round.specs.Steps.{State, unplaced, seats_told, given}
+use Rattle.round.specs.Steps.{State, seats_told, given}
 use Rattle.round.specs.Telling.{Tells, GoesOn}
 use Rattle.round.specs.Serving.{Line, allotted, not_allotted, room_of, rooms, Written, nothing, and_then, serve_refusal, Made, Serves, ServedAs}
 use Rattle.round.specs.Making.{noted}

@@ -1,4 +1,6 @@
 // The table of seats, the round over any register, and the account of a script of calls.
+#![tactic(auto)]
+
 pub mod calls;
 mod makes;
 mod notes;

@@ -1,3 +1,5 @@
+#![tactic(auto)]
+
 // Damaged sheets, sheets that are written back, and the greatest sheet.
 #[cfg(test)]
 mod damaged;

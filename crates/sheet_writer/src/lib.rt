@@ -1,4 +1,6 @@
 // Writing any roll with a filing as a sheet.
+#![tactic(auto)]
+
 mod lists;
 mod refusal;
 mod sections;

@@ -2,7 +2,7 @@ use Rattle.std.proofs.Common.{sym, subst, arith}
 use Rattle.rules.specs.Meaning.{Entries}
 use Rattle.voting.specs.Weights.{Weighing}
 use Rattle.allotment.specs.declared.lists.Lists.{Lists}
-use Rattle.allotment.specs.Copies.{entries, row_of}
+use Rattle.allotment.specs.Copies.{entries}
 use Rattle.allotment.specs.Tabled.{Weighed, by_lists}
 use Rattle.allotment.proofs.Copying.{list_in, trainees_in}
 use Rattle.allotment.proofs.Tabling.{filled_more, filled_all}

@@ -1,6 +1,6 @@
 use Rattle.std.proofs.Common.{◌≡◌, ℕ, List, length, Result, sym, refl, ap, ◌∙◌, length-set, rules}
 use Rattle.rules.specs.declared.words.Refusal.{Refusal}
-use Rattle.rules.specs.Meaning.{Entries, trainees, practices, with_list}
+use Rattle.rules.specs.Meaning.{trainees, practices, with_list}
 use Rattle.rules.specs.Questions.{numbers}
 use Rattle.rank_grid.specs.Grid.{grid_meaning}
 use Rattle.rank_grid.specs.Ranks.{holding}

@@ -1,6 +1,6 @@
-use Rattle.std.proofs.Common.{◌≡◌, ℕ, List, length, Result, sym, refl, ap, ◌∙◌, length-set, rules}
+use Rattle.std.proofs.Common.{◌≡◌, List, length, Result, sym, ap, ◌∙◌, length-set, rules}
 use Rattle.rules.specs.declared.words.Refusal.{Refusal}
-use Rattle.rules.specs.Meaning.{Entries, trainees, practices, with_list}
+use Rattle.rules.specs.Meaning.{trainees, with_list}
 use Rattle.rules.specs.Questions.{numbers}
 use Rattle.row_register.specs.Table.{row_meaning}
 use Rattle.row_register.specs.Rows.{holding}

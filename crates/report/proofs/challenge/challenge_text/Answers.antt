@@ -1,4 +1,4 @@
-use Rattle.std.proofs.Common.{◌≡◌, ◌++◌, None, sym, ap, ◌∙◌, arith}
+use Rattle.std.proofs.Common.{◌++◌, None, ap, ◌∙◌, arith}
 use Rattle.sheet.specs.Reading.{reading}
 use Rattle.texts.specs.Text.{text, kept}
 use Rattle.report.specs.Report.{challenge_text}

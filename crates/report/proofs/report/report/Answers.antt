@@ -1,4 +1,4 @@
-use Rattle.std.proofs.Common.{◌≡◌, ◌++◌, ap, ◌∙◌}
+use Rattle.std.proofs.Common.{◌++◌, ap, ◌∙◌}
 use Rattle.sheet.specs.Reading.{reading}
 use Rattle.texts.specs.Text.{text, kept}
 use Rattle.report.specs.Report.{report_text}

@@ -1,4 +1,4 @@
-use Rattle.std.proofs.Common.{◌≡◌, ◌-◌, ◌≤◌, min, length, take, drop, sym, refl, ap, ◌∙◌, arith, length-drop, length-take}
+use Rattle.std.proofs.Common.{◌≡◌, ◌-◌, min, length, take, drop, refl, ap, ◌∙◌, arith, length-drop, length-take}
 use Rattle.allotment.specs.Calls.{enough}
 use Rattle.round.specs.Account.{allots}
 use Rattle.round.specs.Steps.{Allots, given}

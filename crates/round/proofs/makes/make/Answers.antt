@@ -1,4 +1,4 @@
-use Rattle.std.proofs.Common.{◌≡◌, length, sym, refl, ap, ◌∙◌, subst}
+use Rattle.std.proofs.Common.{◌≡◌, length, sym, ap, ◌∙◌, subst}
 use Rattle.rules.specs.Meaning.{trainees}
 use Rattle.rules.specs.Questions.{numbers}
 use Rattle.round.specs.declared.script.Answer.TheVariants.{Entered, Placed, Allotted, Seated, Challenged}

@@ -1,10 +1,10 @@
-use Rattle.std.proofs.Common.{◌≡◌, ℕ, ◌+◌, ◌-◌, ◌^◌, ◌<◌, ◌≤◌, [], length, Ok, sym, refl, ap, ◌∙◌, subst, arith, rules}
+use Rattle.std.proofs.Common.{◌≡◌, ◌+◌, ◌≤◌, [], length, Ok, sym, ap, ◌∙◌, subst, arith, rules}
 use Rattle.rules.specs.Meaning.{Meaning, meant, trainees}
 use Rattle.round.specs.Steps.{State}
 use Rattle.round.specs.Telling.{Tells}
 use Rattle.round.specs.Seen.{seen}
 use Rattle.round.specs.Serving.{rooms, ServedAs}
-use Rattle.round.proofs.Writing.{Going, going_start, going_step, still_all, next_room, next_within, served, suffices}
+use Rattle.round.proofs.Writing.{going_start, going_step, still_all, next_room, next_within, served, suffices}
 use Rattle.round.proofs.serving.serve.Goals as goal
 
 pub loop-i-init : goal.loop-i-init

@@ -1,6 +1,5 @@
-use Rattle.std.proofs.Common.{◌≡◌, ◌<◌, ◌≤◌, cond, get_or, Some, None, Ok, Err, sym, refl, ap, ◌∙◌, arith}
-use Rattle.rules.specs.Meaning.{trainees}
-use Rattle.voting.specs.Placements.{stored, seating}
+use Rattle.std.proofs.Common.{◌≡◌, Ok, Err, sym, refl, ap, ◌∙◌, arith}
+use Rattle.voting.specs.Placements.{seating}
 use Rattle.round.specs.Account.{asks_seat}
 use Rattle.round.specs.Steps.{seat_in, seat_answer}
 use Rattle.round.specs.Seen.{shown, seen}
