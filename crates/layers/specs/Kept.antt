@@ -2,7 +2,7 @@
 use Rattle.std.specs.Prelude.{◌≡◌, ℕ, zero, suc, ◌<◌, ◌≤◌, min, Bool, true, false, cond, not, List, [], ◌∷◌, map, length, take, filter, ◌≢◌, slice_index_or, refl}
 use Rattle.std.proofs.Common.{sym, arith, length-take, get_or-take}
 use Rattle.std.proofs.lemmas.List.{length-map}
-use Rattle.std.specs.List.{AllByRecursion as All}
+use Rattle.std.specs.List.{AllByRecursion}
 use Rattle.std.proofs.ByRecursion.{all_kept_by, All-get_or, All-from_get_or}
 use Rattle.std.proofs.lemmas.List.Filters.{length-filter_both}
 use Rattle.rules.specs.Meaning.{Entries, Rules, Strict, Lawful, list_of}
@@ -55,13 +55,13 @@ pub bounded_shortened : (most : ℕ) (r : Rules) → r.longest ≤ 12 → (short
 bounded_shortened most r h = omega arith
 
 -- a list without repeats, by its head
-distinct_head : (x : ℕ) (xs : List ℕ) → Distinct (x ∷ xs) → All (λ y. x ≢ y) xs
+distinct_head : (x : ℕ) (xs : List ℕ) → Distinct (x ∷ xs) → AllByRecursion (λ y. x ≢ y) xs
 distinct_head x xs d = All-from_get_or (λ y. x ≢ y) xs 0 (λ k l e. d 0 (suc k) (omega arith) (omega arith) e)
 
 distinct_tail : (x : ℕ) (xs : List ℕ) → Distinct (x ∷ xs) → Distinct xs
 distinct_tail x xs d j k l m e = d (suc j) (suc k) (omega arith) (omega arith) e
 
-distinct_cons : (x : ℕ) (xs : List ℕ) → All (λ y. x ≢ y) xs → Distinct xs → Distinct (x ∷ xs)
+distinct_cons : (x : ℕ) (xs : List ℕ) → AllByRecursion (λ y. x ≢ y) xs → Distinct xs → Distinct (x ∷ xs)
 distinct_cons x xs a d zero zero l m e = omega arith
 distinct_cons x xs a d zero (suc k) l m e = All-get_or (λ y. x ≢ y) xs k 0 (omega arith) a e
 distinct_cons x xs a d (suc j) zero l m e = omega arith

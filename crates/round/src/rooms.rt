@@ -1,6 +1,6 @@
 // The rooms of a script's calls in the memory for placements.
 ghost use Rattle.std.specs.Prelude.{◌≡◌, ◌-◌, ◌^◌, min};
-ghost use Rattle.round.specs.Serving.{room_of, rooms as all-rooms};
+ghost use Rattle.round.specs.Serving.{room_of, rooms as all_rooms};
 
 use crate::script::Call;
 
@@ -17,7 +17,7 @@ pub fn room_for(call: Call<'_>, trainees: usize) -> usize
 
 // The rooms of all calls together, as far as a number goes.
 pub fn needed(script: &[Call<'_>], trainees: usize) -> usize
-    ensures { result ≡ min (all-rooms trainees script.now) (2 ^ 64 - 1) }
+    ensures { result ≡ min (all_rooms trainees script.now) (2 ^ 64 - 1) }
 {
     let mut n = 0usize;
     for i in 0..script.len() {

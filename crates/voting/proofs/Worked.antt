@@ -2,7 +2,7 @@
 use Rattle.std.proofs.Common.{◌≡◌, ℕ, ◌<◌, Bool, true, not, ◌&&◌, eqb, ltb, leb, List, [], ◌∷◌, length, get_or, refl, ◌∙◌, arith}
 use Rattle.std.proofs.lemmas.Bool.{eqb-true, eqb-false, ltb-true, leb-true, not-true, and_parts}
 use Rattle.std.proofs.lemmas.Bool.Decides.{Decides-below_and}
-use Rattle.std.specs.List.{AllByRecursion as All}
+use Rattle.std.specs.List.{AllByRecursion}
 use Rattle.rules.specs.Meaning.{Entries, Strict, Lawful, trainees, practices, places_of, list_of}
 use Rattle.voting.specs.Placements.{Placement, seated, seats_of}
 use Rattle.voting.specs.Votes.{Fullest}
@@ -37,7 +37,7 @@ abbrev all_said : Entries → List Outcome → Bool
 all_said e [] = true
 all_said e (o ∷ os) = is_said e o && all_said e os
 
-each_said : (e : Entries) (os : List Outcome) → all_said e os ≡ true → All (Says e) os
+each_said : (e : Entries) (os : List Outcome) → all_said e os ≡ true → AllByRecursion (Says e) os
 each_said e [] h = tt
 each_said e (o ∷ os) h = let parts = and_parts (is_said e o) (all_said e os) h in (said e o parts.0, each_said e os parts.1)
 
@@ -84,7 +84,7 @@ abbrev all_hold : List Round → Bool
 all_hold [] = true
 all_hold (r ∷ rs) = (is_lawful r.entries && all_said r.entries r.outcomes) && all_hold rs
 
-each_holds : (rs : List Round) → all_hold rs ≡ true → All Holds rs
+each_holds : (rs : List Round) → all_hold rs ≡ true → AllByRecursion Holds rs
 each_holds [] h = tt
 each_holds (r ∷ rs) h =
     let parts = and_parts (is_lawful r.entries && all_said r.entries r.outcomes) (all_hold rs) h in

@@ -1,6 +1,6 @@
 -- The worked rounds: small lawful rolls, and what holds of each.
 use Rattle.std.specs.Prelude.{◌≡◌, ℕ, List, [], ◌∷◌, Some, None}
-use Rattle.std.specs.List.{AllByRecursion as All}
+use Rattle.std.specs.List.{AllByRecursion}
 use Rattle.rules.specs.Meaning.{Entries, Lawful, trainees}
 use Rattle.voting.specs.Placements.{Seat, Placement, Feasible, seated, seats_of}
 use Rattle.voting.specs.Votes.{Fullest, EachBeaten, Strongest}
@@ -30,7 +30,7 @@ abbrev pub round : List ℕ → List (List ℕ) → List Outcome → Round
 round places lists outcomes = record { entries = record { places = places; lists = lists }; outcomes = outcomes }
 
 abbrev pub Holds : Round → Type 0
-Holds r = Lawful r.entries × All (Says r.entries) r.outcomes
+Holds r = Lawful r.entries × AllByRecursion (Says r.entries) r.outcomes
 
 -- three trainees with the same list of two practices
 abbrev pub three_alike : List (List ℕ)
@@ -48,4 +48,4 @@ rounds =
     round (1 ∷ 1 ∷ []) three_alike (challenged (Some 0 ∷ Some 1 ∷ None ∷ []) 1 ∷ []) ∷ []
 
 abbrev pub WorkedRounds : Type 0
-WorkedRounds = All Holds rounds
+WorkedRounds = AllByRecursion Holds rounds
