@@ -1,6 +1,6 @@
+// Runs of the work list and of the engine on examples.
 #![tactic(auto)]
 
-// Runs of the work list and of the engine on examples.
 #[cfg(test)]
 mod tests {
     use assignment::place::place;

@@ -1,6 +1,6 @@
+// Registers over lent memory and piles of layers, as a caller has them.
 #![tactic(auto)]
 
-// Registers over lent memory and piles of layers, as a caller has them.
 #[cfg(test)]
 mod asked;
 pub mod memory;

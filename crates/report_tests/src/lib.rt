@@ -1,6 +1,6 @@
+// The worked rounds and damaged sheets, through the report and the challenge text.
 #![tactic(auto)]
 
-// The worked rounds and damaged sheets, through the report and the challenge text.
 #[cfg(test)]
 mod tests {
     use report::challenge::challenge_text;

@@ -1,6 +1,6 @@
+// Damaged sheets, sheets that are written back, and the greatest sheet.
 #![tactic(auto)]
 
-// Damaged sheets, sheets that are written back, and the greatest sheet.
 #[cfg(test)]
 mod damaged;
 #[cfg(test)]
