@@ -1,4 +1,5 @@
 pub mod Positions
+pub mod Finding
 pub mod Numbers
 pub mod Checking
 pub mod Outcomes

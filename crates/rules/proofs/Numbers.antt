@@ -1,5 +1,5 @@
 -- The numbers of a list of practices, as code reads them.
-use Rattle.std.proofs.Common.{◌≡◌, ℕ, ◌-◌, ◌<◌, List, length, get_or, take, drop, sym, arith}
+use Rattle.std.proofs.Common.{◌≡◌, ℕ, ◌<◌, List, length, get_or, take, sym}
 use lib.ListN.{length-map}
 use Rattle.std.proofs.lemmas.List.{get_or-map, take-map}
 use Rattle.rules.specs.declared.words.Practice.{Practice}
@@ -11,6 +11,5 @@ number list i l = get_or-map (λ (p : Practice). p.0) list i (record { 0 = 0 }) 
 pub length_numbers : (list : List Practice) → length (numbers list) ≡ length list
 length_numbers list = length-map list (λ (p : Practice). p.0)
 
--- `&list[0..i]`
-pub front_numbers : (list : List Practice) (i : ℕ) → numbers (take (i - 0) (drop 0 list)) ≡ take i (numbers list)
-front_numbers list i = let z : i - 0 ≡ i = omega arith in rw z (sym (take-map (λ (p : Practice). p.0) i list))
+pub front_numbers : (list : List Practice) (i : ℕ) → numbers (take i list) ≡ take i (numbers list)
+front_numbers list i = sym (take-map (λ (p : Practice). p.0) i list)

@@ -1,11 +1,12 @@
 -- What the outcome of a call tells, and how it is made.
 use Rattle.std.proofs.Common.{◌≡◌, ℕ, Some, None, Ok, Err, Option, Result, sym, refl, ap, arith}
 use Rattle.rules.specs.declared.words.Refusal.{Refusal}
-use Rattle.rules.specs.Refusals.{outcome}
+use Rattle.rules.specs.Refusals.{answer_of, outcome}
 
 -- the answer alone
-abbrev pub answer_of : Option Refusal → Result (Unit {0}) Refusal
-answer_of o = (outcome {X = Unit {0}} o tt tt).0
+pub outcome_answer : {X : Type 0} (o : Option Refusal) (before changed : X) → (outcome o before changed).0 ≡ answer_of o
+outcome_answer None before changed = refl
+outcome_answer (Some r) before changed = refl
 
 pub none_from_ok : (o : Option Refusal) → Ok tt ≡ answer_of o → o ≡ None
 none_from_ok None h = refl

@@ -35,6 +35,11 @@ because (Some reason) place = Some (of_register reason place)
 abbrev pub places_refusal : Meaning → ℕ → ℕ → Option Refusal
 places_refusal m p n = cond (nat_lt p (practices m.entries)) (because (off_places n) p) (Some (of_register NoSuchPractice p))
 
+-- the answer of a call that is refused with this, if with anything
+abbrev pub answer_of : {E : Type 0} → Option E → Result (Unit {0}) E
+answer_of None = Ok tt
+answer_of (Some e) = Err e
+
 -- the answer of a call, and what stands after it: what stood before, where it is refused
 abbrev pub outcome : {X : Type 0} → Option Refusal → X → X → Result (Unit {0}) Refusal × X
 outcome None before changed = (Ok tt, changed)

@@ -2,6 +2,7 @@
 #![tactic(auto)]
 
 pub mod entry;
+pub mod found;
 pub mod lent;
 pub mod register;
 pub mod roll;

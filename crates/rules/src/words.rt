@@ -3,15 +3,15 @@ ghost use Rattle.std.specs.Prelude.{◌≡◌};
 ghost use Rattle.rules.specs.Words.{number_of, word_of};
 
 /// A trainee, by number from 0.
-#[derive(Clone, Copy, PartialEq, Eq, Debug)]
+#[derive(Clone, Copy, PartialEq, Eq, Debug, Default)]
 pub struct Trainee(pub u16);
 
 /// A practice, by number from 0.
-#[derive(Clone, Copy, PartialEq, Eq, Debug)]
+#[derive(Clone, Copy, PartialEq, Eq, Debug, Default)]
 pub struct Practice(pub u16);
 
 /// A move: a trainee, the seat left and the practice taken.
-#[derive(Clone, Copy, PartialEq, Eq, Debug)]
+#[derive(Clone, Copy, PartialEq, Eq, Debug, Default)]
 pub struct Move {
     pub trainee: Trainee,
     pub left: Option<Practice>,
@@ -63,12 +63,12 @@ pub struct Refusal {
     pub place: usize,
 }
 
-impl Reason {
-    // The number by which the reason is known outside.
-    pub fn number(self) -> u8
-        ensures { result ≡ number_of self }
-    {
-        match self {
+// The number by which a reason is known outside.
+impl From<Reason> for u8 {
+    ghost from_gives = { λ reason n. n ≡ number_of reason };
+
+    fn from(reason: Reason) -> u8 {
+        match reason {
             Reason::SheetEnds => 1,
             Reason::BytesFollow => 2,
             Reason::CountOutOfBounds => 3,
@@ -86,7 +86,7 @@ impl Reason {
 }
 
 impl Layer {
-    // The word by which the layer is known outside.
+    // The word by which the layer is known outside. No Display: a text takes bytes and cannot fail, and a `write!` may.
     pub fn word(self) -> &'static str
         ensures { result.now ≡ word_of self }
     {
@@ -94,6 +94,17 @@ impl Layer {
             Layer::Sheet => "sheet",
             Layer::Register => "register",
             Layer::Round => "round",
+        }
+    }
+
+    // The refusal that this layer gives.
+    pub fn refusal(self, reason: Reason, place: usize) -> Refusal
+        ensures { result ≡ record { reason = reason; layer = self; place = place } }
+    {
+        Refusal {
+            reason,
+            layer: self,
+            place,
         }
     }
 }

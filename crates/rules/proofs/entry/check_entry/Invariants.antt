@@ -2,7 +2,7 @@ use Rattle.std.proofs.Common.{◌≡◌, [], take, drop}
 use Rattle.rules.specs.Meaning.{meant}
 use Rattle.rules.specs.Questions.{numbers}
 use Rattle.rules.specs.Refusals.{choice_refusal}
-use Rattle.rules.proofs.entry.entry_refusal.Given as goal
+use Rattle.rules.proofs.entry.check_entry.Given as goal
 
 abbrev pub invariant-loop-i : goal.invariant-loop-i
 invariant-loop-i g l =
