@@ -1,7 +1,9 @@
 -- Seats, and how many pass a test.
-use Rattle.std.proofs.Common.{◌≡◌, ℕ, zero, suc, ◌+◌, ◌<◌, ◌≤◌, Bool, true, Some, None, refl, ap, ◌∙◌, ⊎_elim, add-one, arith}
+use Rattle.std.proofs.Common.{◌≡◌, ℕ, zero, suc, ◌+◌, ◌<◌, ◌≤◌, Bool, true, ◌==◌, Some, None, Option, refl, ap, ◌∙◌, ⊎_elim, add-one, arith}
 use Rattle.std.proofs.lemmas.Bool.{cases_lt, eq-eqb}
-use Rattle.voting.specs.Placements.{Seat, sits}
+use Rattle.std.specs.Option.{option_eq}
+use Rattle.rules.specs.declared.words.Practice.{Practice}
+use Rattle.voting.specs.Placements.{Seat, stored, sits}
 use Rattle.voting.specs.Totals.{total, one, many}
 use Rattle.voting.proofs.Totals.{one_le, total_le, total_one}
 
@@ -10,6 +12,11 @@ none_some p s a b = let z : ◌≡◌ {A = ℕ} 0 1 = cc in omega arith
 
 pub some_sits : (s : Seat) (p : ℕ) → s ≡ Some p → sits s p ≡ true
 some_sits s p e = ap (λ x. sits x p) e ∙ eq-eqb p p refl
+
+-- what `==` answers of a seat and a practice
+pub seat_eq : (s : Option Practice) (p : Practice) → option_eq (λ (a b : Practice). a.0 == b.0) s (Some p) ≡ sits (stored s) p.0
+seat_eq None p = refl
+seat_eq (Some q) p = refl
 
 pub many_le : (n : ℕ) (f : ℕ → Bool) → many n f ≤ n
 many_le zero f = omega arith

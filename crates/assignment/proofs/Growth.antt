@@ -1,12 +1,9 @@
 -- What lasts while a search goes on.
-use Rattle.std.proofs.Common.{◌≡◌, ℕ, true, Some, None, inl, inr, ⊎_elim, arith}
+use Rattle.std.proofs.Common.{◌≡◌, ℕ, true, Some, None, inl, inr, ⊎_elim, subst, arith}
 use Rattle.voting.specs.Placements.{Seat}
 use Rattle.assignment.specs.declared.table.Table.{Table}
 use Rattle.assignment.specs.declared.state.State.{State}
 use Rattle.assignment.specs.Searches.{Progress, inside, Reached, Waits, Grown, Closed}
-
-pub grown_refl : (T : Table) (S : State) (R : Progress) → Grown T S R R
-grown_refl T S R = record { still = λ p m. m; waits = λ t w. w; fresh = λ t l a. inl a; fair = omega arith }
 
 pub grown_trans : (T : Table) (S : State) (R Q U : Progress) → Grown T S R Q → Grown T S Q U → Grown T S R U
 grown_trans T S R Q U g h =
@@ -29,3 +26,7 @@ closed_grown T S R R' t g h s b = inside_grown T S R R' g s (h s b)
 pub reached_grown : (T : Table) (S : State) (R R' : Progress) (t : ℕ) → Grown T S R R' → Reached S R.reached t → Reached S R'.reached t
 reached_grown T S R R' t g (inl e) = inl e
 reached_grown T S R R' t g (inr (p, s, y)) = inr (p, s, g.still p y)
+
+-- what holds of one table and state holds of the same
+pub along : (P : Table → State → Type 0) {T T' : Table} {S S' : State} → T' ≡ T → S' ≡ S → P T' S' → P T S
+along P {T} {T'} {S} {S'} t s h = subst (λ A. P A S) t (subst (λ B. P T' B) s h)

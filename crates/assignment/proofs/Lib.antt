@@ -9,7 +9,7 @@ pub mod Starts
 pub mod Finish
 pub mod Queues
 pub mod Bounds
+pub mod Truths
 pub mod Growth
 pub mod Notes
 pub mod Searches
-pub mod Slots

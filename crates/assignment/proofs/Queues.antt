@@ -1,11 +1,12 @@
 -- Who waits, as the queue grows and shrinks.
-use Rattle.std.proofs.Common.{◌≡◌, ℕ, zero, suc, ◌+◌, ◌<◌, ◌≤◌, true, false, ◌⊎◌, List, [], ◌∷◌, ◌++◌, length, Some, sym, refl, ap, ◌∙◌, subst, inl, inr, ⊎_elim, arith}
+use Rattle.std.proofs.Common.{◌≡◌, ℕ, zero, suc, ◌+◌, ◌<◌, ◌≤◌, true, false, ◌⊎◌, List, [], ◌∷◌, ◌++◌, length, Some, Option, sym, refl, ap, ◌∙◌, subst, inl, inr, ⊎_elim, arith}
 use Rattle.std.proofs.lemmas.List.{length_push, get_or_push, get_or_append_left}
 use Rattle.std.proofs.lemmas.Bool.{cases_eq, cases_lt, both_ways}
 use Rattle.rules.specs.declared.words.Trainee.{Trainee}
 use Rattle.voting.specs.Placements.{sits}
 use Rattle.voting.specs.Totals.{one}
 use Rattle.voting.proofs.Ranks.{sits_some}
+use Rattle.worklist.specs.Outcomes.{oldest_outcome}
 use Rattle.assignment.specs.declared.state.State.{State}
 use Rattle.assignment.specs.Searches.{no_trainee, Waits, Queued}
 use Rattle.assignment.specs.States.{seat_of}
@@ -33,8 +34,14 @@ pub waits_first : (x : Trainee) (q : List Trainee) (t : ℕ) → Waits (x ∷ q)
 waits_first x q t (zero, l, e) = inl (sym e)
 waits_first x q t (suc j, l, e) = inr (j, omega arith, e)
 
-pub queued_none : (S : State) (p : ℕ) (q : List Trainee) → Queued S 0 p q q
-queued_none S p q = record { size = omega arith; kept = λ t w. w; all = λ t l. absurd (omega arith); only = λ t w. inl w }
+-- what is left once the oldest was taken off
+pub waits_oldest : (q r : List Trainee) (o : Option Trainee) → oldest_outcome q ≡ (o, r) → (t : ℕ) → Waits r t → Waits q t
+waits_oldest [] r o e t w = let k : [] ≡ r = ap (λ z. z.1) e in subst (λ z. Waits z t) (sym k) w
+waits_oldest (x ∷ xs) r o e t w = let k : xs ≡ r = ap (λ z. z.1) e in waits_rest x xs t (subst (λ z. Waits z t) (sym k) w)
+
+pub length_oldest : (q r : List Trainee) (o : Option Trainee) → oldest_outcome q ≡ (o, r) → length r ≤ length q
+length_oldest [] r o e = let k : [] ≡ r = ap (λ z. z.1) e in omega (arith, ap length k)
+length_oldest (x ∷ xs) r o e = let k : xs ≡ r = ap (λ z. z.1) e in omega (arith, ap length k)
 
 -- one trainee after another
 module _ (S : State) (k p : ℕ) (old new : List Trainee) (h : Queued S k p old new) where

@@ -1,5 +1,5 @@
 -- With the newcomer seated the state is sound again.
-use Rattle.std.proofs.Common.{◌≡◌, ℕ, ◌+◌, ◌<◌, ◌≤◌, true, false, get_or, Some, None, sym, refl, ap, ◌∙◌, subst, inl, inr, ⊎_elim, arith}
+use Rattle.std.proofs.Common.{◌≡◌, ℕ, ◌+◌, ◌<◌, ◌≤◌, true, false, Some, None, sym, refl, ap, ◌∙◌, subst, inl, inr, ⊎_elim, arith}
 use Rattle.std.proofs.lemmas.Bool.{cases_eq, cases_Bool}
 use Rattle.voting.specs.Placements.{Seat, sits}
 use Rattle.voting.specs.Totals.{one}
@@ -10,7 +10,7 @@ use Rattle.assignment.specs.declared.state.State.{State}
 use Rattle.assignment.specs.declared.state.End.{End}
 use Rattle.assignment.specs.Moves.{mover, goal}
 use Rattle.assignment.specs.Searches.{Progress, marked, Explored, Ended, Free}
-use Rattle.assignment.specs.States.{capacity, value, price, count, seat_of, Tight, Sound, Ready}
+use Rattle.assignment.specs.States.{trainees_in, capacity, price, count, seat_of, Tight, Sound, Ready}
 use Rattle.assignment.specs.Steps.{Settled, Countable}
 use Rattle.assignment.specs.Walks.{end_seat, Chain, Took, Under}
 use Rattle.assignment.proofs.Counts.{none_some, many_le}
@@ -32,14 +32,14 @@ module _ (T : Table) (S : State) (R : Progress) (e : End) (r : Ready T S) (x : E
             let f = x.found q.0 q.2 in inr (f.0, f.1, q.1 ∙ ap Some (sym f.2))) g.reached;
       }
 
-  pub roomy : Countable S.counts (end_seat e)
+  pub roomy : Countable S (end_seat e)
   roomy = go (end_seat e) g.ends.free
     where
-      go : (s : Seat) → Free T S s → Countable S.counts s
+      go : (s : Seat) → Free T S s → Countable S s
       go None f = tt
       go (Some p) f = (
         omega (arith, f.0, T.small),
-        omega (arith, r.sound.counted p f.0, many_le T.n (λ t. sits (seat_of S t) p), T.few),
+        omega (arith, r.sound.counted p f.0, many_le (trainees_in T) (λ t. sits (seat_of S t) p), T.few),
       )
 
   took_best : (t : ℕ) (s : Seat) → Took R.moves e t s → Tight T S t s
@@ -65,15 +65,9 @@ module _ (T : Table) (S : State) (R : Progress) (e : End) (r : Ready T S) (x : E
   free_at p k = let f = subst (λ s. Free T S s) (sits_some (end_seat e) p k) g.ends.free in f.1
 
   module _ (S' : State) (h : Settled S S' R.moves e) where
-    value_is : (t : ℕ) → value S' t ≡ value S t
-    value_is t = ap (λ xs. get_or xs t 0) h.values
-
-    price_is : (p : ℕ) → price S' p ≡ price S p
-    price_is p = ap (λ xs. get_or xs p 0) h.prices
-
     price_of_is : (s : Seat) → price_of (price S') s ≡ price_of (price S) s
     price_of_is None = refl
-    price_of_is (Some p) = price_is p
+    price_of_is (Some p) = h.prices p
 
     best : (t : ℕ) → t ≤ S.newcomer → Tight T S t (seat_of S' t)
     best t l =
@@ -96,26 +90,26 @@ module _ (T : Table) (S : State) (R : Progress) (e : End) (r : Ready T S) (x : E
     counts_off : (p : ℕ) → sits (end_seat e) p ≡ false → count S' p ≡ count S p
     counts_off p k = omega (arith, h.counts p, ap one k)
 
-    under : Under T.n R.moves e
+    under : Under (trainees_in T) R.moves e
     under = (omega (arith, g.early, r.next), λ j l. omega (arith, x.early j l, r.next))
 
     pub sound_settled : Sound T S'
     sound_settled =
         record {
-          priced = λ t s k a. omega (arith, value_is t, price_of_is s, r.sound.priced t s k a);
+          priced = λ t s k a. omega (arith, h.values t, price_of_is s, r.sound.priced t s k a);
           allowed = λ t l. (best t (omega (arith, h.newcomer))).allowed;
-          tight = λ t l. omega (arith, (best t (omega (arith, h.newcomer))).exact, value_is t, price_of_is (seat_of S' t));
+          tight = λ t l. omega (arith, (best t (omega (arith, h.newcomer))).exact, h.values t, price_of_is (seat_of S' t));
           later = λ t l. ⊎_elim (λ (a : seat_of S' t ≡ seat_of S t). a ∙ r.sound.later t (omega (arith, h.newcomer)))
               (λ (a : Took R.moves e t (seat_of S' t)). absurd (omega (arith, h.newcomer, took_early t (seat_of S' t) a))) (h.seats.moved t);
-          counted = λ p l. omega (arith, h.counts p, r.sound.counted p l, h.seats.counted T.n p under);
+          counted = λ p l. omega (arith, h.counts p, r.sound.counted p l, h.seats.counted (trainees_in T) p under);
           fits = λ p l. ⊎_elim (λ (k : sits (end_seat e) p ≡ true). omega (arith, counts_at p k, free_at p k))
               (λ (k : sits (end_seat e) p ≡ false). omega (arith, counts_off p k, r.sound.fits p l)) (cases_Bool (sits (end_seat e) p));
           full = λ p z.
-              let f = r.sound.full p (omega (arith, price_is p)) in (
+              let f = r.sound.full p (omega (arith, h.prices p)) in (
                 f.0,
                 ⊎_elim (λ (k : sits (end_seat e) p ≡ true). absurd (omega (arith, f.1, free_at p k)))
                     (λ (k : sits (end_seat e) p ≡ false). counts_off p k ∙ f.1) (cases_Bool (sits (end_seat e) p)),
               );
-          cheap = λ p. omega (arith, price_is p, r.sound.cheap p);
-          modest = λ t. omega (arith, value_is t, r.sound.modest t);
+          cheap = λ p. omega (arith, h.prices p, r.sound.cheap p);
+          modest = λ t. omega (arith, h.values t, r.sound.modest t);
         }

@@ -1,29 +1,43 @@
 -- The moves are carried out.
-use Rattle.std.proofs.Common.{◌≡◌, ℕ, ◌+◌, ◌<◌, ◌≤◌, true, false, ◌⊎◌, List, [], ◌∷◌, ◌++◌, length, get_or, set, Some, None, Option, sym, refl, ap, ◌∙◌, subst, inl, inr, ⊎_elim, arith}
+use Rattle.std.proofs.Common.{◌≡◌, ℕ, ◌+◌, ◌<◌, ◌≤◌, true, false, ◌⊎◌, List, [], ◌∷◌, ◌++◌, length, get_or, set, Some, None, sym, refl, ap, ◌∙◌, subst, inl, inr, ⊎_elim, arith}
 use Rattle.std.proofs.lemmas.List.{length_push, get_or_push, get_or_append_left, get_or-set_same, get_or-set_other}
 use Rattle.std.proofs.lemmas.Bool.{cases_eq, both_ways}
 use Rattle.rules.specs.declared.words.Move.{Move}
-use Rattle.rules.specs.declared.words.Practice.{Practice}
-use Rattle.voting.specs.Placements.{Seat, Placement, stored, seating, sits, seated_at}
+use Rattle.voting.specs.Placements.{Seat, Placement, stored, sits, seated_at}
 use Rattle.voting.specs.Totals.{one}
 use Rattle.voting.proofs.Moves.{Moved, seated_moved}
 use Rattle.voting.proofs.Ranks.{sits_some}
 use Rattle.worklist.specs.Outcomes.{newest_outcome}
 use Rattle.worklist.proofs.Ends.{newest_some}
 use Rattle.assignment.specs.declared.state.End.{End}
+use Rattle.assignment.specs.declared.state.TraineeState.{TraineeState}
 use Rattle.assignment.specs.Moves.{no_move, mover, origin, goal}
+use Rattle.assignment.specs.States.{no_trainee_state, seats_in, value_in}
 use Rattle.assignment.specs.Walks.{end_seat, Front, Chain, Took, Under, Shifted, Walk}
 use Rattle.assignment.proofs.Counts.{none_some, some_sits}
 
 some_inj : (p q : ℕ) → ◌≡◌ {A = Seat} (Some p) (Some q) → p ≡ q
 some_inj p q e = cc
 
--- one seat written anew
+-- one trainee written anew
 pub moved_set :
-    (seats : List (Option Practice)) (r : ℕ) (s : Option Practice) → r < length seats →
-    Moved r (stored s) (seating seats) (seating (set seats r s))
-moved_set seats r s l =
-    record { here = ap stored (get_or-set_same seats r s None l); else = λ t k. ap stored (get_or-set_other seats r t s None k) }
+    (ts : List TraineeState) (r : ℕ) (x : TraineeState) → r < length ts →
+    Moved r (stored x.seat) (seats_in ts) (seats_in (set ts r x))
+moved_set ts r x l =
+    record {
+      here = ap (λ (y : TraineeState). stored y.seat) (get_or-set_same ts r x no_trainee_state l);
+      else = λ t k. ap (λ (y : TraineeState). stored y.seat) (get_or-set_other ts r t x no_trainee_state k);
+    }
+
+pub values_set :
+    (ts : List TraineeState) (r : ℕ) (x : TraineeState) → r < length ts → x.value ≡ value_in ts r →
+    (t : ℕ) → value_in (set ts r x) t ≡ value_in ts t
+values_set ts r x l e t =
+    ⊎_elim
+    (λ (q : t ≡ r).
+    ap (value_in (set ts r x)) q ∙ ap (λ (y : TraineeState). y.value) (get_or-set_same ts r x no_trainee_state l) ∙ e ∙ ap (value_in ts) (sym q))
+    (λ (q : t ≡ r → ⊥). ap (λ (y : TraineeState). y.value) (get_or-set_other ts r t x no_trainee_state q))
+    (cases_eq t r)
 
 module _ (M : Placement) (ms : List Move) (e : End) (h : Chain M ms e) where
   -- a mover's own seat is not taken by a move that is no earlier
@@ -120,21 +134,20 @@ module _ (xs ys zs : List Move) (x : Move) (f : Front xs ys) (o : newest_outcome
   pub front_known : ((j : ℕ) → j < length ys → mover ys j < 400) → x.trainee.0 < 400
   front_known h = subst (λ (y : Move). y.trainee.0 < 400) front_last (h (length zs) (omega (arith, f.within, front_length)))
 
-  module _ (M : Placement) (e' : End) (h : Chain M ys e') (seats : List (Option Practice)) (left : Seat) (w : Walk M (seating seats) ys e' left (length xs)) where
-    before : Walk M (seating seats) ys e' left (length zs + 1)
-    before = subst (λ i. Walk M (seating seats) ys e' left i) front_length w
+  module _ (M : Placement) (e' : End) (h : Chain M ys e') (N : Placement) (left : Seat) (w : Walk M N ys e' left (length xs)) where
+    before : Walk M N ys e' left (length zs + 1)
+    before = subst (λ i. Walk M N ys e' left i) front_length w
 
     pub front_take :
-        length seats ≡ 400 → sits left x.taken.0 ≡ true →
-        Walk M (seating (set seats x.trainee.0 (Some x.taken))) ys e' (stored x.left) (length zs)
-    front_take size at =
+        (N' : Placement) → Moved x.trainee.0 (Some x.taken.0) N N' → sits left x.taken.0 ≡ true → Walk M N' ys e' (stored x.left) (length zs)
+    front_take N' m at =
         let j = length zs in
         let l : j < length ys = omega (arith, f.within, front_length) in
-        subst (λ (y : Move). Walk M (seating (set seats y.trainee.0 (Some y.taken))) ys e' (stored y.left) j) front_last
-        (walk_take M ys e' h (seating seats) _ left j l before
-        (sits_some left (goal ys j) (subst (λ (y : Move). sits left y.taken.0 ≡ true) (sym front_last) at))
-        (moved_set seats (mover ys j) (Some (get_or ys j no_move).taken) (omega (arith, size, h.known j l))))
+        subst (λ (y : Move). Walk M N' ys e' (stored y.left) j) front_last
+        (walk_take M ys e' h N N' left j l before (sits_some left (goal ys j) (subst (λ (y : Move). sits left y.taken.0 ≡ true) (sym front_last) at))
+        (subst (λ (y : Move). Moved y.trainee.0 (Some y.taken.0) N N') (sym front_last) m))
 
-    pub front_skip : sits left x.taken.0 ≡ false → Walk M (seating seats) ys e' left (length zs)
+    pub front_skip : sits left x.taken.0 ≡ false → Walk M N ys e' left (length zs)
     front_skip off =
-        walk_skip M ys e' h (seating seats) left (length zs) before (subst (λ (y : Move). sits left y.taken.0 ≡ false) (sym front_last) off)
+        walk_skip M ys e' h N left (length zs) before
+        (subst (λ (y : Move). sits left y.taken.0 ≡ false) (sym front_last) off)

@@ -3,6 +3,7 @@ pub mod Tables
 pub mod States
 pub mod Moves
 pub mod Searches
+pub mod Progress
 pub mod Walks
 pub mod Raises
 pub mod Steps

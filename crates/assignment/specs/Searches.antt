@@ -4,14 +4,14 @@ use Rattle.rules.specs.declared.words.Move.{Move}
 use Rattle.rules.specs.declared.words.Practice.{Practice}
 use Rattle.rules.specs.declared.words.Trainee.{Trainee}
 use Rattle.voting.specs.Totals.{many}
-use Rattle.voting.specs.Placements.{Seat, stored, seated_at}
+use Rattle.voting.specs.Placements.{Seat, Placement, stored, seated_at}
 use Rattle.worklist.specs.declared.WorkList.{WorkList}
 use Rattle.worklist.specs.Records.{records, room}
 use Rattle.assignment.specs.declared.table.Table.{Table}
 use Rattle.assignment.specs.declared.state.State.{State}
 use Rattle.assignment.specs.declared.state.End.{End}
 use Rattle.assignment.specs.Moves.{mover, origin, goal}
-use Rattle.assignment.specs.States.{choice, capacity, seat_of, count, Ready, Tight}
+use Rattle.assignment.specs.States.{trainees_in, practices_in, capacity, seat_of, count, Tight}
 
 -- the moves, which practices were reached, who waits, and how many slots there are of either kind
 pub record Progress : Type 0 where
@@ -21,8 +21,8 @@ pub record Progress : Type 0 where
   pub slots : ℕ
   pub spots : ℕ
 
-abbrev pub progress : WorkList Move → WorkList Trainee → List Bool → Progress
-progress moves waiting reached =
+abbrev pub progress_of : WorkList Move → WorkList Trainee → List Bool → Progress
+progress_of moves waiting reached =
     record { moves = records moves; reached = reached; queue = records waiting; slots = room moves; spots = room waiting }
 
 abbrev pub marked : List Bool → ℕ → Bool
@@ -36,9 +36,12 @@ inside V (Some p) = marked V p
 abbrev pub Reached : State → List Bool → ℕ → Type 0
 Reached S V t = (t ≡ S.newcomer) ⊎ ((p : ℕ) × (seat_of S t ≡ Some p) × (marked V p ≡ true))
 
--- the same as a test
+-- the same as a test, where k is the newcomer
+abbrev pub comes_to : ℕ → Placement → List Bool → ℕ → Bool
+comes_to k M V t = t == k || inside V (M t)
+
 abbrev pub is_reached : State → List Bool → ℕ → Bool
-is_reached S V t = t == S.newcomer || inside V (seat_of S t)
+is_reached S V = comes_to S.newcomer (seat_of S) V
 
 abbrev pub no_trainee : Trainee
 no_trainee = record { 0 = 0 }
@@ -65,11 +68,11 @@ pub record Noted (S : State) (R R' : Progress) (x : Move) : Type 0 where
 
 -- the state of a search
 pub record Explored (T : Table) (S : State) (R : Progress) : Type 0 where
-  pub size : many T.m (marked R.reached) ≡ length R.moves
-  pub slots : T.n ≤ R.slots
-  pub spots : T.n ≤ R.spots
+  pub size : many (practices_in T) (marked R.reached) ≡ length R.moves
+  pub slots : trainees_in T ≤ R.slots
+  pub spots : trainees_in T ≤ R.spots
   -- the moves take just the practices that were reached, each once
-  pub known : (j : ℕ) → j < length R.moves → goal R.moves j < T.m
+  pub known : (j : ℕ) → j < length R.moves → goal R.moves j < practices_in T
   pub marks : (j : ℕ) → j < length R.moves → marked R.reached (goal R.moves j) ≡ true
   pub found : (p : ℕ) → marked R.reached p ≡ true → (j : ℕ) × (j < length R.moves) × (goal R.moves j ≡ p)
   pub apart : (i j : ℕ) → i < j → j < length R.moves → goal R.moves i ≢ goal R.moves j
@@ -83,7 +86,7 @@ pub record Explored (T : Table) (S : State) (R : Progress) : Type 0 where
       (mover R.moves j ≡ S.newcomer) ⊎ ((i : ℕ) × (i < j) × (seat_of S (mover R.moves j) ≡ Some (goal R.moves i)))
   -- only who was reached waits, and each at most once
   pub waiting : (t : ℕ) → Waits R.queue t → (t ≤ S.newcomer) × Reached S R.reached t
-  pub waited : length R.queue ≤ many T.n (is_reached S R.reached)
+  pub waited : length R.queue ≤ many (trainees_in T) (is_reached S R.reached)
 
 -- all tight seats of t were reached
 abbrev pub Closed : Table → State → List Bool → ℕ → Type 0
@@ -98,28 +101,21 @@ pub record Grown (T : Table) (S : State) (R R' : Progress) : Type 0 where
   pub still : (p : ℕ) → marked R.reached p ≡ true → marked R'.reached p ≡ true
   pub waits : (t : ℕ) → Waits R.queue t → Waits R'.queue t
   pub fresh : (t : ℕ) → t ≤ S.newcomer → Reached S R'.reached t → Reached S R.reached t ⊎ Waits R'.queue t
-  pub fair : length R'.queue + many T.n (is_reached S R.reached) ≤ length R.queue + many T.n (is_reached S R'.reached)
+  pub fair : length R'.queue + many (trainees_in T) (is_reached S R.reached) ≤ length R.queue + many (trainees_in T) (is_reached S R'.reached)
 
 abbrev pub Free : Table → State → Seat → Type 0
 Free T S None = Unit {0}
-Free T S (Some p) = (p < T.m) × (count S p < capacity T p)
+Free T S (Some p) = (p < practices_in T) × (count S p < capacity T p)
 
 -- the search may end with t at s
 pub record Ends (T : Table) (S : State) (t : ℕ) (s : Seat) : Type 0 where
   pub tight : Tight T S t s
   pub free : Free T S s
 
--- what a look at the i-th choice of t gives: an end, or the choice was reached if it is tight
+-- what a look at the choice p of t gives: an end, or p was reached if it is tight
 abbrev pub Probed : Table → State → List Bool → ℕ → ℕ → Bool → Type 0
-Probed T S V t i true = Ends T S t (Some (choice T t i))
-Probed T S V t i false = Tight T S t (Some (choice T t i)) → marked V (choice T t i) ≡ true
-
--- a search under way that has come to t
-pub record Seeking (T : Table) (S : State) (R : Progress) (t : ℕ) : Type 0 where
-  pub ready : Ready T S
-  pub explored : Explored T S R
-  pub early : t ≤ S.newcomer
-  pub reached : Reached S R.reached t
+Probed T S V t p true = Ends T S t (Some p)
+Probed T S V t p false = Tight T S t (Some p) → marked V p ≡ true
 
 -- what a look at all seats of t gives
 abbrev pub Scanned : Table → State → List Bool → ℕ → Option (Option Practice) → Type 0
@@ -139,11 +135,3 @@ Stuck T S V = (t : ℕ) → t ≤ S.newcomer → Reached S V t → Closed T S V 
 abbrev pub Sought : Table → State → List Bool → Option End → Type 0
 Sought T S V None = Stuck T S V
 Sought T S V (Some e) = Ended T S V e
-
--- a search that has not begun
-pub record Fresh (T : Table) (R : Progress) : Type 0 where
-  pub moves : R.moves ≡ []
-  pub queue : R.queue ≡ []
-  pub slots : T.n ≤ R.slots
-  pub spots : T.n ≤ R.spots
-  pub unmarked : (p : ℕ) → marked R.reached p ≡ false

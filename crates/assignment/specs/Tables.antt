@@ -1,22 +1,24 @@
 -- What a table says, and when it takes a row.
-use Rattle.std.specs.Prelude.{◌≡◌, ℕ, ◌<◌, ◌≤◌, Bool, true, false, List, [], ◌∷◌, ◌++◌, map, take, Some, None, Option}
+use Rattle.std.specs.Prelude.{◌≡◌, ℕ, ◌<◌, ◌≤◌, List, [], ◌∷◌, ◌++◌, map, length, Some, None, Ok, Err, Option, Result}
 use Rattle.rules.specs.Meaning.{Entries, trainees, practices}
 use Rattle.voting.specs.Placements.{Seat}
 use Rattle.voting.specs.Weights.{Weighing}
 use Rattle.assignment.specs.declared.row.Row.{Row}
+use Rattle.assignment.specs.declared.table.NotTaken.{NotTaken}
+use Rattle.assignment.specs.declared.table.NotTaken.TheVariants.{Full, Unfit}
 use Rattle.assignment.specs.declared.table.Table.{Table}
 use Rattle.assignment.specs.Rows.{at, list, weigh, GoodRow, Roomy}
 
 abbrev pub entries : Table → Entries
-entries T = record { places = take T.m T.places; lists = map list (take T.n T.rows) }
+entries T = record { places = T.places.items; lists = map list T.rows.items }
 
 abbrev pub weights : Table → Weighing
-weights T t s = weigh (at T.rows t) s
+weights T t s = weigh (at T.rows.items t) s
 
 -- a table is opened where there are few practices and each has a place
-abbrev pub Opened : ℕ → List ℕ → Option Table → Type 0
-Opened m places None = (m ≤ 100) × Roomy m places → ⊥
-Opened m places (Some T) = (m ≤ 100) × Roomy m places × (entries T ≡ record { places = take m places; lists = [] })
+abbrev pub Opened : List ℕ → Option Table → Type 0
+Opened places None = (length places ≤ 100) × Roomy places → ⊥
+Opened places (Some T) = (length places ≤ 100) × Roomy places × (entries T ≡ record { places = places; lists = [] })
 
 -- where one more row may stand
 pub record Takes (T : Table) (r : Row) : Type 0 where
@@ -30,6 +32,11 @@ pub record Extended (T : Table) (r : Row) (T' : Table) : Type 0 where
   pub earlier : (t : ℕ) (s : Seat) → t < trainees (entries T) → weights T' t s ≡ weights T t s
   pub last : (s : Seat) → weights T' (trainees (entries T)) s ≡ weigh r s
 
-abbrev pub Added : Table → Row → Bool → Table → Type 0
-Added T r true T' = Takes T r × Extended T r T'
-Added T r false T' = (Takes T r → ⊥) × (T' ≡ T)
+-- why a row may not stand there: the table is full, or else the row is not good
+abbrev pub Because : Table → Row → NotTaken → Type 0
+Because T r Full = trainees (entries T) ≡ 400
+Because T r Unfit = (trainees (entries T) < 400) × (GoodRow (practices (entries T)) r → ⊥)
+
+abbrev pub Added : Table → Row → Result (Unit {0}) NotTaken → Table → Type 0
+Added T r (Ok _) T' = Takes T r × Extended T r T'
+Added T r (Err e) T' = (Takes T r → ⊥) × (T' ≡ T) × Because T r e

@@ -1,86 +1,79 @@
 // A table is made row by row.
-ghost use Rattle.std.specs.Prelude.{◌≡◌, ℕ, ◌<◌, ◌≤◌, true, false, ◌≢◌};
-ghost use Rattle.assignment.specs.Rows.{GoodRow, Roomy, choice_of};
+ghost use Rattle.std.specs.Prelude.{◌≡◌, ◌<◌, ◌==◌, true, false};
+ghost use Rattle.std.specs.List.{list_any};
+ghost use Rattle.assignment.specs.Rows.{GoodRow, row_of};
+ghost use Rattle.assignment.specs.States.{trainees_in, row};
 ghost use Rattle.assignment.specs.Tables.{Opened, Added};
 
-use crate::row::{GREATEST, Row};
-use crate::table::Table;
+use crate::row::{Choice, GREATEST, Row};
+use crate::table::{NotTaken, Table};
+use arrayvec::ArrayVec;
 use rules::words::Practice;
 
-// Whether the i-th choice stands earlier on the row too.
-fn stands_before(row: &Row, i: usize) -> bool
-    requires { i < 12 }
-    ensures no { result ≡ false → (j : ℕ) → j < i → choice_of row.now j ≢ choice_of row.now i }
-    ensures yes { result ≡ true → ((j : ℕ) × (j < i) × (choice_of row.now j ≡ choice_of row.now i)) }
+// Whether the practice is among the choices.
+fn is_chosen(choices: &[Choice], p: Practice) -> bool
+    ensures { result ≡ list_any (λ c. c.practice.0 == p.0) choices.now }
 {
-    for j in 0..i {
-        if row.choices[j].0 == row.choices[i].0 {
-            return true;
-        }
-    }
-    false
+    choices.iter().any(|choice| choice.practice == p)
 }
 
-// Whether the row may stand in a table over m practices.
-fn is_good(row: &Row, m: usize) -> bool
-    ensures yes { result ≡ true → GoodRow m row.now }
-    ensures no { result ≡ false → GoodRow m row.now → ⊥ }
-{
-    if row.len > 12 || row.none > GREATEST {
-        return false;
-    }
-    for i in 0..row.len {
-        if row.choices[i].0 as usize >= m || row.weights[i] > GREATEST || stands_before(row, i) {
+impl Row {
+    // Whether the row may stand in a table over m practices.
+    fn is_good(&self, m: usize) -> bool
+        ensures yes { result ≡ true → GoodRow m self.now }
+        ensures no { result ≡ false → GoodRow m self.now → ⊥ }
+    {
+        if self.none > GREATEST {
             return false;
         }
-    }
-    true
-}
-
-// Whether each of the first m practices has a place.
-fn is_roomy(m: usize, places: &[u16; 100]) -> bool
-    requires { m ≤ 100 }
-    ensures yes { result ≡ true → Roomy m places.now }
-    ensures no { result ≡ false → Roomy m places.now → ⊥ }
-{
-    for p in 0..m {
-        if places[p] == 0 {
-            return false;
+        for (i, choice) in self.choices.iter().enumerate() {
+            if choice.practice.0 as usize >= m
+                || choice.weight > GREATEST
+                || is_chosen(&self.choices[..i], choice.practice)
+            {
+                return false;
+            }
         }
+        true
     }
-    true
 }
 
 impl Table {
-    // A table over the first m practices, with no trainees yet.
-    pub fn new(m: usize, places: [u16; 100]) -> Option<Table>
-        ensures { Opened m places result }
+    // The row of a trainee.
+    pub(crate) fn row(&self, t: usize) -> &Row
+        requires { t < trainees_in self.now }
+        ensures { result.now ≡ row self.now t }
     {
-        if m > 100 || !is_roomy(m, &places) {
+        &self.rows[t]
+    }
+
+    // A table over practices with these places, with no trainees yet.
+    pub fn new(places: &[u16]) -> Option<Table>
+        ensures { Opened places.now result }
+    {
+        let places: ArrayVec<u16, 100> = ArrayVec::try_from(places).ok()?;
+        if places.contains(&0) {
             return None;
         }
         Some(Table {
-            n: 0,
-            m,
             places,
-            rows: [Row {
-                len: 0,
-                choices: [Practice(0); 12],
-                weights: [0; 12],
-                none: 0,
-            }; 400],
+            rows: ArrayVec::new(),
         })
     }
 
-    // Puts the row at the end, where it may stand there.
-    pub fn add(&mut self, row: Row) -> bool
-        ensures { Added self.old row result self.new }
+    // Puts the row of these choices at the end, where it may stand there.
+    pub fn add(&mut self, choices: &[Choice], none: u32) -> Result<(), NotTaken>
+        ensures { Added self.old (row_of choices.now none) result self.new }
     {
-        if self.n == 400 || !is_good(&row, self.m) {
-            return false;
+        if self.rows.is_full() {
+            return Err(NotTaken::Full);
         }
-        self.rows[self.n] = row;
-        self.n += 1;
-        true
+        let choices = ArrayVec::try_from(choices).map_err(|_| NotTaken::Unfit)?;
+        let row = Row { choices, none };
+        if !row.is_good(self.places.len()) {
+            return Err(NotTaken::Unfit);
+        }
+        self.rows.push(row);
+        Ok(())
     }
 }

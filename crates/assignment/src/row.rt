@@ -1,12 +1,18 @@
 // A row of the table: what one trainee wants.
+use arrayvec::ArrayVec;
 use rules::words::Practice;
 
-/// The practices of a list, the most wanted first, what each weighs, and what no seat weighs.
-#[derive(Clone, Copy)]
+/// A practice of a list, and what a seat there weighs.
+#[derive(Clone, Copy, PartialEq, Eq, Debug, Default)]
+pub struct Choice {
+    pub practice: Practice,
+    pub weight: u32,
+}
+
+/// The choices of a list, the most wanted first, and what no seat weighs.
+#[derive(Default, Drop)]
 pub struct Row {
-    pub len: usize,
-    pub choices: [Practice; 12],
-    pub weights: [u32; 12],
+    pub choices: ArrayVec<Choice, 12>,
     pub none: u32,
 }
 

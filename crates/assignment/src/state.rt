@@ -1,14 +1,27 @@
 // The state of the engine: who sits where, and the prices.
 use rules::words::Practice;
 
-/// The trainees below the newcomer are placed: their seats, how many sit at each practice, its price, and each trainee's value.
+/// A trainee's seat and value.
+#[derive(Clone, Copy)]
+pub struct TraineeState {
+    pub seat: Option<Practice>,
+    pub value: u32,
+}
+
+/// How many sit at a practice, and its price.
+#[derive(Clone, Copy, Default)]
+pub struct PracticeState {
+    pub count: u16,
+    pub price: u32,
+}
+
+/// The trainees below the newcomer are placed.
+// Arrays, not vectors that grow with the newcomer: each of 400 hopes for the most from the start, and the seats are handed out whole.
 #[derive(Drop)]
 pub struct State {
     pub newcomer: usize,
-    pub seats: [Option<Practice>; 400],
-    pub counts: [u16; 100],
-    pub prices: [u32; 100],
-    pub values: [u32; 400],
+    pub trainees: [TraineeState; 400],
+    pub practices: [PracticeState; 100],
 }
 
 /// Where a search ends: the trainee may take the seat.

@@ -1,25 +1,26 @@
-// The table that the engine reads: what the rows of n trainees say of m practices.
+// The table that the engine reads: what the rows of its trainees say of its practices.
 ghost use Rattle.std.specs.Prelude.{◌≤◌, length};
-ghost use Rattle.assignment.specs.Rows.{Roomy, Short, Sized, Known, Once, Modest, Least};
+ghost use Rattle.assignment.specs.Rows.{Roomy, Standing};
 
 use crate::row::Row;
+use arrayvec::ArrayVec;
 
 /// Its bounds hold of every table, so no sum of the engine overflows.
 #[derive(Drop)]
 pub struct Table {
-    pub(crate) n: usize,
-    pub(crate) m: usize,
-    pub(crate) places: [u16; 100],
-    pub(crate) rows: [Row; 400],
-    ghost few: { n ≤ 400 },
-    ghost small: { m ≤ 100 },
-    ghost rowed: { n ≤ length rows },
-    ghost placed: { m ≤ length places },
-    ghost roomy: { Roomy m places },
-    ghost short: { Short n rows },
-    ghost sized: { Sized n rows },
-    ghost known: { Known n m rows },
-    ghost once: { Once n rows },
-    ghost modest: { Modest n rows },
-    ghost least: { Least n rows },
+    pub(crate) places: ArrayVec<u16, 100>,
+    pub(crate) rows: ArrayVec<Row, 400>,
+    ghost few: { length rows.items ≤ 400 },
+    ghost small: { length places.items ≤ 100 },
+    ghost roomy: { Roomy places.items },
+    ghost stands: { Standing (length places.items) rows.items },
+}
+
+/// Why a row is not taken.
+#[derive(Clone, Copy, PartialEq, Eq, Debug)]
+pub enum NotTaken {
+    /// There are 400 rows.
+    Full,
+    /// A practice is unknown or named twice, there are more than 12, or a weight is too great.
+    Unfit,
 }

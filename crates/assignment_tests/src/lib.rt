@@ -4,8 +4,8 @@
 #[cfg(test)]
 mod tests {
     use assignment::place::place;
-    use assignment::row::Row;
-    use assignment::table::Table;
+    use assignment::row::Choice;
+    use assignment::table::{NotTaken, Table};
     use rules::words::{Move, Practice, Reason, Trainee};
     use std::process::Abort;
     use std::test::Fail;
@@ -23,7 +23,7 @@ mod tests {
             return Err(Fail::new("a fourth record"));
         };
         assert!(rt; refusal.place == 3);
-        assert!(rt; refusal.reason.number() == 9);
+        assert!(rt; u8::from(refusal.reason) == 9);
         assert_eq!(rt; list.take_oldest(), Some(1));
         assert!(rt; list.add(5).is_ok());
         assert_eq!(rt; list.take_newest(), Some(5));
@@ -34,43 +34,49 @@ mod tests {
         Ok(())
     }
 
-    // A row with practice 0 and then 1.
-    fn wants(first: u32, second: u32) -> Row {
-        let mut row = Row {
-            len: 2,
-            choices: [Practice(0); 12],
-            weights: [0; 12],
-            none: 0,
-        };
-        row.choices[1] = Practice(1);
-        row.weights[0] = first;
-        row.weights[1] = second;
-        row
+    // Practice 0 and then 1, which weigh so.
+    fn wants(first: u32, second: u32) -> [Choice; 2] {
+        [
+            Choice {
+                practice: Practice(0),
+                weight: first,
+            },
+            Choice {
+                practice: Practice(1),
+                weight: second,
+            },
+        ]
     }
 
     // Two practices with a place each, for two trainees who both like practice 0 best.
     fn two(rt: &impl Abort) -> Result<Table, Fail> {
-        let mut places = [0; 100];
-        places[0] = 1;
-        places[1] = 1;
-        let Some(mut table) = Table::new(2, places) else {
+        let Some(mut table) = Table::new(&[1, 1]) else {
             return Err(Fail::new("places"));
         };
-        assert!(rt; table.add(wants(5, 4)));
-        assert!(rt; table.add(wants(5, 1)));
+        assert!(rt; table.add(&wants(5, 4), 0).is_ok());
+        assert!(rt; table.add(&wants(5, 1), 0).is_ok());
         Ok(table)
+    }
+
+    // A row is refused with the reason, and the table is as it was.
+    #[test]
+    fn refuses_rows(rt: HostRuntime) -> Result<(), Fail> {
+        let mut table = two(&rt)?;
+        let twice = [Choice::default(); 2];
+        assert_eq!(rt; table.add(&twice, 0), Err(NotTaken::Unfit));
+        for _ in 2..400 {
+            assert!(rt; table.add(&[], 0).is_ok());
+        }
+        assert_eq!(rt; table.add(&[], 0), Err(NotTaken::Full));
+        Ok(())
     }
 
     // The first gives way to the second, who gains more by practice 0.
     #[test]
     fn gives_way(rt: HostRuntime) -> Result<(), Fail> {
         let table = two(&rt)?;
-        let mut waiting = [Trainee(0); 2];
-        let mut moves = [Move {
-            trainee: Trainee(0),
-            left: None,
-            taken: Practice(0),
-        }; 2];
+        let mut waiting = [Trainee::default(); 2];
+        let mut moves = [Move::default(); 2];
         let Ok(placed) = place(&table, &mut waiting, &mut moves) else {
             return Err(Fail::new("slots"));
         };
@@ -84,12 +90,8 @@ mod tests {
     #[test]
     fn wants_slots(rt: HostRuntime) -> Result<(), Fail> {
         let table = two(&rt)?;
-        let mut waiting = [Trainee(0); 1];
-        let mut moves = [Move {
-            trainee: Trainee(0),
-            left: None,
-            taken: Practice(0),
-        }; 2];
+        let mut waiting = [Trainee::default(); 1];
+        let mut moves = [Move::default(); 2];
         let Err(refusal) = place(&table, &mut waiting, &mut moves) else {
             return Err(Fail::new("one slot"));
         };

@@ -1,5 +1,5 @@
 // The calls of a work list.
-ghost use Rattle.std.specs.Prelude.{◌≡◌, false, [], length, is_ok, None};
+ghost use Rattle.std.specs.Prelude.{◌≡◌, ◌+◌, ◌<◌, ◌≤◌, ◌⊎◌, false, [], length, is_ok, None};
 ghost use Rattle.worklist.specs.Records.{records, room};
 ghost use Rattle.worklist.specs.Outcomes.{add_outcome, oldest_outcome, newest_outcome};
 
@@ -19,6 +19,17 @@ impl<'a, T: Copy> WorkList<'a, T> {
         }
     }
 
+    // The slot that stands k places behind the head, round and round.
+    fn slot(&self, k: usize) -> usize
+        requires some { 0 < room self.now }
+        requires round { k ≤ room self.now }
+        ensures within { result < room self.now }
+        ensures behind { (result ≡ self.now.head + k) ⊎ (result + room self.now ≡ self.now.head + k) }
+    {
+        let after = self.slots.len() - self.head;
+        if k < after { self.head + k } else { k - after }
+    }
+
     // Puts `x` behind the newest, or refuses where all slots are taken.
     pub fn add(&mut self, x: T) -> Result<(), Refusal>
         ensures outcome { add_outcome (records self.old) (room self.old) x ≡ (result, records self.new) }
@@ -26,19 +37,11 @@ impl<'a, T: Copy> WorkList<'a, T> {
         ensures kept { is_ok result ≡ false → self.new ≡ self.old }
     {
         let slots = self.slots.len();
-        if self.len == slots {
-            return Err(Refusal {
-                reason: Reason::WrongLength,
-                layer: Layer::Round,
-                place: slots,
-            });
+        let len = self.len;
+        if len == slots {
+            return Err(Layer::Round.refusal(Reason::WrongLength, slots));
         }
-        let after = slots - self.head;
-        let at = if self.len < after {
-            self.head + self.len
-        } else {
-            self.len - after
-        };
+        let at = self.slot(len);
         self.slots[at] = x;
         self.len += 1;
         Ok(())
@@ -53,13 +56,8 @@ impl<'a, T: Copy> WorkList<'a, T> {
         if self.len == 0 {
             return None;
         }
-        let at = self.head;
-        let x = self.slots[at];
-        self.head = if self.head + 1 == self.slots.len() {
-            0
-        } else {
-            self.head + 1
-        };
+        let x = self.slots[self.head];
+        self.head = self.slot(1);
         self.len -= 1;
         Some(x)
     }
@@ -74,12 +72,7 @@ impl<'a, T: Copy> WorkList<'a, T> {
             return None;
         }
         let last = self.len - 1;
-        let after = self.slots.len() - self.head;
-        let at = if last < after {
-            self.head + last
-        } else {
-            last - after
-        };
+        let at = self.slot(last);
         self.len = last;
         Some(self.slots[at])
     }

@@ -1,60 +1,77 @@
-use Rattle.std.proofs.Common.{false, ◌∙◌, arith}
-use Rattle.assignment.specs.Searches.{progress}
+use Rattle.std.proofs.Common.{sym, ◌∙◌}
+use Rattle.assignment.specs.Progress.{progress}
+use Rattle.assignment.specs.Raises.{Slack}
+use Rattle.assignment.specs.Searches.{Ended, Covered}
+use Rattle.assignment.proofs.Growth.{along}
 use Rattle.assignment.proofs.Rises.{raisable, lowerable, ready_rise}
 use Rattle.assignment.proofs.Settles.{chained, roomy, sound_settled}
-use Rattle.assignment.proofs.Starts.{get_or_all}
+use Rattle.assignment.proofs.Truths.{explored_at}
 use Rattle.assignment.proofs.place.take_in.Goals as goal
 
 pub reach-requires : goal.reach-requires
 reach-requires c =
-    record {
-      ready = c.loop-end.invariant.0;
-      fresh = record {
-        moves = c.new-steps.ensures.empty;
-        queue = c.new-queue.ensures.empty;
-        slots = omega (arith, c.requires.slots, c.new-steps.ensures.room);
-        spots = omega (arith, c.requires.spots, c.new-queue.ensures.room);
-        unmarked = λ p. get_or_all 100 p false;
-      };
-    }
+    let s = c.begin-search.result in
+    along (λ T S. Covered T S (progress s)) (sym c.begin-search.ensures.table) (sym c.begin-search.ensures.state) c.begin-search.ensures.covered
 
-pub settle-requires : goal.settle-requires
-settle-requires c =
+pub settle-requires-clause-chain : goal.settle-requires-clause-chain
+settle-requires-clause-chain c =
     let T = c.args.table.now in
     let S = c.loop-end.state in
-    let R = progress c.reach.new.moves c.reach.new.waiting c.reach.new.reached in
-    let r = c.loop-end.invariant.0 in
-    let g = c.in-Some.ensures.sought in
-    record {
-      chain = chained T S R c.in-Some.end r c.reach.ensures.explored g;
-      room = roomy T S R c.in-Some.end r c.reach.ensures.explored g;
-      few = omega (arith, r.next, T.few);
-    }
+    let s = c.reach.new.self in
+    let b = c.begin-search.ensures in
+    let x = explored_at s T S (c.reach.ensures.kept.table ∙ b.table) (c.reach.ensures.kept.state ∙ b.state) in
+    chained T S (progress s) c.in-Some.end c.loop-end.invariant.ready x
+    (along (λ A B. Ended A B s.reached c.in-Some.end) b.table b.state c.in-Some.ensures.sought)
 
-pub returns-in-Some : goal.returns-in-Some
-returns-in-Some c =
-    let R = progress c.reach.new.moves c.reach.new.waiting c.reach.new.reached in
-    record {
-      sound = sound_settled c.args.table.now c.loop-end.state R c.in-Some.end c.loop-end.invariant.0 c.reach.ensures.explored c.in-Some.ensures.sought
-          c.settle.new.state c.settle.ensures;
-      newcomer = omega (arith, c.settle.ensures.newcomer, c.loop-end.invariant.1);
-    }
-
-pub raise-requires : goal.raise-requires
-raise-requires c =
+pub settle-requires-clause-room : goal.settle-requires-clause-room
+settle-requires-clause-room c =
     let T = c.args.table.now in
     let S = c.loop-end.state in
-    let R = progress c.reach.new.moves c.reach.new.waiting c.reach.new.reached in
-    let r = c.loop-end.invariant.0 in
-    record {
-      prices = raisable T S R c.slack-d.result r c.reach.ensures.explored c.slack-d.ensures.slack;
-      values = lowerable T S R c.slack-d.result r c.reach.ensures.explored c.slack-d.ensures.slack;
-    }
+    let s = c.reach.new.self in
+    let b = c.begin-search.ensures in
+    let x = explored_at s T S (c.reach.ensures.kept.table ∙ b.table) (c.reach.ensures.kept.state ∙ b.state) in
+    roomy T S (progress s) c.in-Some.end c.loop-end.invariant.ready x
+    (along (λ A B. Ended A B s.reached c.in-Some.end) b.table b.state c.in-Some.ensures.sought)
+
+pub returns-in-Some-clause-sound : goal.returns-in-Some-clause-sound
+returns-in-Some-clause-sound c =
+    let T = c.args.table.now in
+    let S = c.loop-end.state in
+    let s = c.reach.new.self in
+    let b = c.begin-search.ensures in
+    let x = explored_at s T S (c.reach.ensures.kept.table ∙ b.table) (c.reach.ensures.kept.state ∙ b.state) in
+    sound_settled T S (progress s) c.in-Some.end c.loop-end.invariant.ready x
+    (along (λ A B. Ended A B s.reached c.in-Some.end) b.table b.state c.in-Some.ensures.sought) c.settle.new.self c.settle.ensures
+
+pub raise-requires-clause-prices : goal.raise-requires-clause-prices
+raise-requires-clause-prices c =
+    let T = c.args.table.now in
+    let S = c.loop-end.state in
+    let s = c.reach.new.self in
+    let t = c.reach.ensures.kept.table ∙ c.begin-search.ensures.table in
+    let u = c.reach.ensures.kept.state ∙ c.begin-search.ensures.state in
+    raisable T S (progress s) c.slack-d.result c.loop-end.invariant.ready (explored_at s T S t u)
+    (along (λ A B. Slack A B s.reached c.slack-d.result) t u c.slack-d.ensures.slack)
+
+pub raise-requires-clause-values : goal.raise-requires-clause-values
+raise-requires-clause-values c =
+    let T = c.args.table.now in
+    let S = c.loop-end.state in
+    let s = c.reach.new.self in
+    let t = c.reach.ensures.kept.table ∙ c.begin-search.ensures.table in
+    let u = c.reach.ensures.kept.state ∙ c.begin-search.ensures.state in
+    lowerable T S (progress s) c.slack-d.result c.loop-end.invariant.ready (explored_at s T S t u)
+    (along (λ A B. Slack A B s.reached c.slack-d.result) t u c.slack-d.ensures.slack)
 
 pub loop-end-preserved : goal.loop-end-preserved
 loop-end-preserved c =
-    let R = progress c.reach.new.moves c.reach.new.waiting c.reach.new.reached in (
-      ready_rise c.args.table.now c.loop-end.state R c.slack-d.result c.loop-end.invariant.0 c.reach.ensures.explored c.slack-d.ensures.slack c.raise.new.state
-          c.raise.ensures,
-      c.raise.ensures.newcomer ∙ c.loop-end.invariant.1,
-    )
+    let T = c.args.table.now in
+    let S = c.loop-end.state in
+    let s = c.reach.new.self in
+    let t = c.reach.ensures.kept.table ∙ c.begin-search.ensures.table in
+    let u = c.reach.ensures.kept.state ∙ c.begin-search.ensures.state in
+    record {
+      ready = ready_rise T S (progress s) c.slack-d.result c.loop-end.invariant.ready (explored_at s T S t u)
+          (along (λ A B. Slack A B s.reached c.slack-d.result) t u c.slack-d.ensures.slack) c.raise.new.self c.raise.ensures;
+      newcomer = c.raise.ensures.newcomer ∙ c.loop-end.invariant.newcomer;
+    }

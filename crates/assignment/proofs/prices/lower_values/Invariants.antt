@@ -1,10 +1,13 @@
-use Rattle.std.proofs.Common.{◌≡◌, ℕ, ◌+◌, ◌<◌, ◌≤◌, cond, length, get_or}
-use Rattle.voting.specs.Placements.{seating}
-use Rattle.assignment.specs.Searches.{inside}
+use Rattle.std.proofs.Common.{◌≡◌, ℕ, ◌+◌, ◌<◌, ◌≤◌, cond, length}
+use Rattle.assignment.specs.Searches.{comes_to}
+use Rattle.assignment.specs.States.{seats_in, value_in}
 use Rattle.assignment.proofs.prices.lower_values.Given as goal
 
 abbrev pub invariant-loop-t : goal.invariant-loop-t
-invariant-loop-t l =
-    (length l.values ≡ 400) ×
-    ((u : ℕ) → u < l.t → get_or l.values u 0 + cond (inside l.reached (seating l.seats u)) l.d 0 ≡ get_or l.initial.values u 0) ×
-    ((u : ℕ) → l.t ≤ u → get_or l.values u 0 ≡ get_or l.initial.values u 0)
+invariant-loop-t l = record {
+  size : length l.trainees ≡ 400;
+  below :
+      (u : ℕ) → u < l.t → value_in l.trainees u + cond (comes_to l.newcomer (seats_in l.initial.trainees) l.reached u) l.d 0 ≡ value_in l.initial.trainees u;
+  above : (u : ℕ) → l.t ≤ u → value_in l.trainees u ≡ value_in l.initial.trainees u;
+  seats : (u : ℕ) → seats_in l.trainees u ≡ seats_in l.initial.trainees u;
+}

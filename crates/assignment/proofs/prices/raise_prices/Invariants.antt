@@ -1,8 +1,12 @@
-use Rattle.std.proofs.Common.{◌≡◌, ℕ, ◌+◌, ◌<◌, ◌≤◌, false, cond, length, get_or}
+use Rattle.std.proofs.Common.{◌≡◌, ℕ, ◌+◌, ◌<◌, ◌≤◌, cond, length}
+use Rattle.assignment.specs.Searches.{marked}
+use Rattle.assignment.specs.States.{price_in, count_in}
 use Rattle.assignment.proofs.prices.raise_prices.Given as goal
 
 abbrev pub invariant-loop-p : goal.invariant-loop-p
-invariant-loop-p l =
-    (length l.prices ≡ 100) ×
-    ((q : ℕ) → q < l.p → get_or l.prices q 0 ≡ get_or l.initial.prices q 0 + cond (get_or l.reached q false) l.d 0) ×
-    ((q : ℕ) → l.p ≤ q → get_or l.prices q 0 ≡ get_or l.initial.prices q 0)
+invariant-loop-p l = record {
+  size : length l.practices ≡ 100;
+  below : (q : ℕ) → q < l.p → price_in l.practices q ≡ price_in l.initial.practices q + cond (marked l.reached q) l.d 0;
+  above : (q : ℕ) → l.p ≤ q → price_in l.practices q ≡ price_in l.initial.practices q;
+  counts : (q : ℕ) → count_in l.practices q ≡ count_in l.initial.practices q;
+}

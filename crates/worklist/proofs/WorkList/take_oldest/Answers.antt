@@ -1,21 +1,15 @@
-use Rattle.std.proofs.Common.{◌≡◌, ◌+◌, sym, refl, ap, ◌∙◌, arith}
-use Rattle.worklist.specs.Records.{turned}
+use Rattle.std.proofs.Common.{refl, ap, arith}
 use Rattle.worklist.specs.Outcomes.{oldest_outcome}
-use Rattle.worklist.proofs.Turns.{oldest_at, round}
+use Rattle.worklist.proofs.Turns.{oldest_at, head_on}
 use Rattle.worklist.proofs.WorkList.take_oldest.Goals as goal
-use Rattle.worklist.proofs.WorkList.take_oldest.Goals.{then-self, else-self}
 
 pub returns : goal.returns
 returns g c =
     let w = c.args.self.now in
     let s = w.slots.now in
-    let e : turned s c.if-self.self ≡ turned s (w.head + 1) =
-    elim c.if-self.branch [
-      | then-self v ↦ ap (turned s) v.self-is ∙ sym (round s) ∙ ap (turned s) (sym v.if-self.true)
-      | else-self v ↦ ap (turned s) v.self-is
-    ] in
+    let e = head_on s w.head c.slot-self.result (omega arith) c.slot-self.ensures.behind in
     record {
-      outcome = ap oldest_outcome (oldest_at s w.head c.if-self.self w.len c.index-self-at.result (omega arith) (omega arith) (omega arith) e);
+      outcome = ap oldest_outcome (oldest_at s w.head c.slot-self.result w.len c.index-self-self.result (omega arith) (omega arith) (omega arith) e);
       room = refl;
       kept = λ f. cc;
     }

@@ -1,8 +1,0 @@
-use Rattle.std.proofs.Common.{◌≡◌}
-use Rattle.worklist.specs.Records.{records, room}
-use Rattle.assignment.specs.Searches.{Queued}
-use Rattle.assignment.proofs.search.let_wait.Given as goal
-
-abbrev pub invariant-loop-t : goal.invariant-loop-t
-invariant-loop-t l =
-    Queued l.state l.t l.p.0 (records l.initial.waiting) (records l.waiting) × (room l.waiting ≡ room l.initial.waiting)
