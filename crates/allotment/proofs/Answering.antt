@@ -1,8 +1,8 @@
 -- What the engine answers, and what the calls answer then.
-use Rattle.std.proofs.Common.{◌≡◌, ℕ, ◌≤◌, Bool, true, false, ◌&&◌, eqb, leb, List, length, Some, None, Ok, Err, Option, Result, sym, refl, ap, ◌∙◌, subst, ap₂, ⊎_elim, arith}
+use Rattle.std.proofs.Common.{◌≡◌, ℕ, ◌≤◌, Bool, true, false, ◌&&◌, eqb, leb, List, length, Some, None, Ok, Err, Option, Result, sym, refl, ap, ◌∙◌, subst, ap₂, ⊎_elim}
 use Rattle.std.proofs.lemmas.Bool.{both_ways, cond-true, cond-false, and_from, and_cases, le-leb}
 use Rattle.rules.specs.declared.words.Refusal.{Refusal}
-use Rattle.rules.specs.declared.words.Reason.TheVariants.{WrongLength, NotFeasible}
+use Rattle.rules.specs.declared.words.Reason.TheVariants.{WrongLength}
 use Rattle.rules.specs.Words.{of_round}
 use Rattle.rules.specs.Meaning.{Entries, trainees}
 use Rattle.voting.specs.Placements.{Placement, seating}
@@ -15,7 +15,7 @@ use Rattle.allotment.specs.Calls.{enough, Decided, Finds, Verdict, told, roomy, 
 
 pub answer_ok : (T : Table) (b : Bool) (r : Result Placed Refusal) (p : Placed) → Answer T b r → r ≡ Ok p → (b ≡ true) × Best T p
 answer_ok T true r p a e = let k : a.0 ≡ p = cc a.1 in (refl, subst (Best T) k a.2)
-answer_ok T false r p a e = let z : ◌≡◌ {A = ℕ} 0 1 = cc in absurd (omega arith)
+answer_ok T false r p a e = absurd cc
 
 -- what allot answers, and what its buffer holds then
 abbrev pub Allots : Entries → ℕ → ℕ → List ℕ → Result ℕ Refusal → List ℕ → Type 0
@@ -49,7 +49,7 @@ found_decided e w m p f = go (enough e w m) refl
   where
     go : (b : Bool) → enough e w m ≡ b → (enough e w m ≡ true) × Decided e (Ok p)
     go true k = (k, f.decided k)
-    go false k = let z : ◌≡◌ {A = ℕ} 0 1 = cc (f.few k) in absurd (omega arith)
+    go false k = absurd (cc (f.few k))
 
 pub allots_found :
     (e : Entries) (w m : ℕ) (B B' : List ℕ) (p : Found) → trainees e ≤ length B → Finds e w m (Ok p) →
@@ -79,7 +79,7 @@ Challenges e offered B r B' =
 refused :
     (e : Entries) (offered B : List ℕ) (x : Refusal) → challenge_refusal e offered (length B) ≡ Some x → Challenges e offered B (Err x) B
 refused e offered B x i =
-    (0, λ t. None, λ h. let z : ◌≡◌ {A = ℕ} 0 1 = cc in absurd (omega arith), ap (λ o. challenge_answer o e B 0 (λ t. None)) i)
+    (0, λ t. None, λ h. absurd cc, ap (λ o. challenge_answer o e B 0 (λ t. None)) i)
 
 -- the lengths
 pub challenges_short :
@@ -94,6 +94,10 @@ module _ (e : Entries) (offered B : List ℕ) (fit : (eqb (length offered) (trai
   refusal = cond-true _ _ _ fit
 
   -- the first seat that does not fit
-  pub challenges_unfit :
-      (t : ℕ) (x : Refusal) → Some t ≡ first_unfit e (offered_by offered) (trainees e) → x ≡ of_round NotFeasible t → Challenges e offered B (Err x) B
-  challenges_unfit t x u i = refused e offered B x (refusal ∙ ap not_feasible (sym u) ∙ ap Some (sym i))
+  pub challenges_unfit : (x : Refusal) → not_feasible (first_unfit e (offered_by offered) (trainees e)) ≡ Some x → Challenges e offered B (Err x) B
+  challenges_unfit x u = refused e offered B x (refusal ∙ u)
+
+-- where nothing is refused all seats fit
+pub none_unfit : (o : Option ℕ) → not_feasible o ≡ None → o ≡ None
+none_unfit None h = refl
+none_unfit (Some t) h = absurd cc

@@ -67,12 +67,12 @@ last_fits :
 last_fits e M n h = go (first_unfit e M n) refl
   where
     go : (o : Option ℕ) → first_unfit e M n ≡ o → (first_unfit e M n ≡ None) × (fit_seat e M n (M n) ≡ true)
-    go (Some t) k = let m : Some t ≡ None = rw k at h in let z : ◌≡◌ {A = ℕ} 0 1 = cc in absurd (omega arith)
+    go (Some t) k = let m : Some t ≡ None = rw k at h in absurd cc
     go None k = (k, fits (fit_seat e M n (M n)) refl)
       where
         fits : (b : Bool) → fit_seat e M n (M n) ≡ b → fit_seat e M n (M n) ≡ true
         fits true m = m
-        fits false m = let x : Some n ≡ None = rw (k, m) at h in let z : ◌≡◌ {A = ℕ} 0 1 = cc in absurd (omega arith)
+        fits false m = let x : Some n ≡ None = rw (k, m) at h in absurd cc
 
 -- where all fit, each does
 all_fit : (e : Entries) (M : Placement) (n t : ℕ) → first_unfit e M n ≡ None → t < n → fit_seat e M t (M t) ≡ true

@@ -31,7 +31,7 @@ listing_first list p e = omega (arith, first_on list p e)
 
 no_first : (list : List ℕ) → first_choice list ≡ None → 0 < length list → ⊥
 no_first [] k some = omega arith
-no_first (x ∷ xs) k some = let z : ◌≡◌ {A = ℕ} 0 1 = cc in omega arith
+no_first (x ∷ xs) k some = absurd cc
 
 some_list : (list : List ℕ) → 0 < length list → has_list list ≡ true
 some_list [] some = absurd (omega arith)

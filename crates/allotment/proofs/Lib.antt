@@ -1,5 +1,6 @@
 pub mod Answering
 pub mod Copying
+pub mod Demands
 pub mod Deciding
 pub mod Fallbacks
 pub mod Fitting

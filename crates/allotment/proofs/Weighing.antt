@@ -109,7 +109,7 @@ other_weighs counts places list p s e other =
 pub fallback_weighs :
     (counts places : ℕ → ℕ) (list : List ℕ) (p : ℕ) → first_choice list ≡ Some p → places p < counts p →
     161202 ≤ by_firsts counts places list (fallback_on counts places list)
-fallback_weighs counts places [] p e over = let z : ◌≡◌ {A = ℕ} 0 1 = cc in absurd (omega arith)
+fallback_weighs counts places [] p e over = absurd cc
 fallback_weighs counts places (x ∷ xs) p e over =
     let k : p ≡ x = cc in
     let m : ltb (places x) (counts x) ≡ true = lt-ltb (places x) (counts x) (subst (λ y. places y < counts y) k over) in

@@ -1,4 +1,4 @@
-pub mod Arrays
+pub mod Vectors
 pub mod Bytes
 pub mod Calls
 pub mod Challenges

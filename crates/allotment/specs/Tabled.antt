@@ -1,21 +1,27 @@
 -- A table that holds a roll and a weighing.
-use Rattle.std.specs.Prelude.{◌≡◌, ℕ, ◌^◌, ◌<◌, ◌≤◌, Bool, true, false, List, [], length, take, Some, slice_index, slice_index_or}
+use Rattle.std.specs.Prelude.{◌≡◌, ℕ, ◌^◌, ◌<◌, ◌≤◌, Bool, true, false, ◌||◌, List, [], length, take, Some, Option, ◌==◌, nat_lt}
+use Rattle.std.specs.List.{range_with_len, zip}
+use Rattle.arrayvec.specs.ArrayVec.{ArrayVec}
+use Rattle.rules.specs.declared.words.Practice.{Practice}
 use Rattle.rules.specs.Meaning.{Entries, trainees, list_of}
-use Rattle.voting.specs.Placements.{Seat, Placement, Allowed}
+use Rattle.voting.specs.Placements.{Seat, Placement, Allowed, stored}
 use Rattle.voting.specs.Weights.{Weighing}
+use Rattle.assignment.specs.declared.row.Choice.{Choice}
 use Rattle.assignment.specs.declared.row.Row.{Row}
 use Rattle.assignment.specs.declared.table.Table.{Table}
-use Rattle.assignment.specs.Rows.{no_practice, list, weigh}
+use Rattle.assignment.specs.Rows.{list, weigh, size, weight_of}
 use Rattle.assignment.specs.Tables.{entries, weights}
-use Rattle.allotment.specs.declared.lists.Choices.{Choices}
+use Rattle.allotment.specs.Vectors.{chosen}
+
+-- a choice of a list, with what a seat there weighs
+abbrev pub choice_by : (Seat → ℕ) → Practice → Choice
+choice_by w p = record { practice = p; weight = w (Some p.0) }
 
 -- a row with this list, and with these weights of its seats
 pub record Weighed (wishes : List ℕ) (w : Seat → ℕ) (r : Row) : Type 0 where
-  pub short : r.len ≤ 12
-  pub sized : r.len ≤ length r.choices
   pub same : list r ≡ wishes
   pub exact : (s : Seat) → Allowed wishes s → weigh r s ≡ w s
-  pub modest : (k : ℕ) → slice_index r.weights k ≤ 2 ^ 30
+  pub modest : (i : ℕ) → i < size r → weight_of r i ≤ 2 ^ 30
   pub least : r.none ≤ 2 ^ 30
 
 -- what the lists say, by a weighing of seats by the own list
@@ -26,11 +32,6 @@ by_lists e w t s = w t (list_of e t) s
 pub record Tabled (e : Entries) (w : Weighing) (T : Table) : Type 0 where
   pub same : entries T ≡ e
   pub exact : (t : ℕ) (s : Seat) → t < trainees e → Allowed (list_of e t) s → weights T t s ≡ w t s
-
--- the first n weights are those of the first n choices, and none is too great
-pub record Gains (w : Seat → ℕ) (c : Choices) (n : ℕ) (weights : List ℕ) : Type 0 where
-  pub exact : (k : ℕ) → k < n → slice_index weights k ≡ w (Some (slice_index_or c.practices k no_practice).0)
-  pub modest : (k : ℕ) → slice_index weights k ≤ 2 ^ 30
 
 -- the same practices, and no trainee
 abbrev pub emptied : Entries → Entries
@@ -50,3 +51,18 @@ AllWeigh e w M = (t : ℕ) → t < trainees e → 0 < length (list_of e t) → 0
 abbrev pub WhetherAllWeigh : Entries → Weighing → Placement → Bool → Type 0
 WhetherAllWeigh e w M true = AllWeigh e w M
 WhetherAllWeigh e w M false = (t : ℕ) × (t < trainees e) × (0 < length (list_of e t)) × (w t (M t) ≡ 0)
+
+-- each list, the seat beside it and the trainee's number
+abbrev pub Beside : Type 0
+Beside = (ArrayVec Practice × Option Practice) × ℕ
+
+abbrev pub beside : List (ArrayVec Practice) → List (Option Practice) → List Beside
+beside lists seats = zip (zip lists seats) (range_with_len 0 400)
+
+-- what the seat weighs there
+abbrev pub weight_at : (ℕ → List ℕ → Seat → ℕ) → Beside → ℕ
+weight_at w x = w x.1 (chosen x.0.0) (stored x.0.1)
+
+-- there is no list, or the seat weighs something
+abbrev pub content_at : (ℕ → List ℕ → Seat → ℕ) → Beside → Bool
+content_at w x = (length x.0.0.items == 0) || nat_lt 0 (weight_at w x)

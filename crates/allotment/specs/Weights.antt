@@ -1,10 +1,11 @@
 -- The weights by which allot and challenge seek.
-use Rattle.std.specs.Prelude.{◌≡◌, ℕ, cond, not, ◌&&◌, List, Some, None, nat_lt, slice_index}
+use Rattle.std.specs.Prelude.{◌≡◌, ℕ, cond, not, ◌&&◌, List, Some, None, nat_lt, slice_index_or}
 use Rattle.rules.specs.Meaning.{Entries, places_of, list_of}
 use Rattle.voting.specs.Placements.{Seat, sits}
 use Rattle.voting.specs.Votes.{prefers}
 use Rattle.voting.specs.Local.{first_choice, first_count, earliest}
 use Rattle.voting.specs.Weights.{Weighing}
+use Rattle.allotment.specs.declared.by_firsts.Demand.{Demand}
 use Rattle.allotment.specs.declared.by_firsts.ByFirsts.{ByFirsts}
 
 -- the earliest practice on the list, other than the first choice, whose first count is below its places
@@ -34,11 +35,20 @@ allot_weights e t s = by_firsts (first_count e) (places_of e) (list_of e t) s
 abbrev pub by_ballot : List ℕ → Seat → Seat → ℕ
 by_ballot list own s = cond (prefers list s own) 2 (cond (prefers list own s) 0 1)
 
--- numbers of practices, as an array holds them
-abbrev pub numbered : List ℕ → ℕ → ℕ
-numbered xs p = slice_index xs p
+abbrev pub no_demand : Demand
+no_demand = record { firsts = 0; places = 0 }
+
+-- what is demanded of a practice, and nothing past the last
+abbrev pub demand_at : List Demand → ℕ → Demand
+demand_at demands p = slice_index_or demands p no_demand
+
+abbrev pub firsts_in : List Demand → ℕ → ℕ
+firsts_in demands p = (demand_at demands p).firsts
+
+abbrev pub places_in : List Demand → ℕ → ℕ
+places_in demands p = (demand_at demands p).places
 
 -- the weighing holds the first counts and the places of the roll
 pub record Holds (e : Entries) (b : ByFirsts) : Type 0 where
-  pub counts : (p : ℕ) → numbered b.counts p ≡ first_count e p
-  pub places : (p : ℕ) → numbered b.places p ≡ places_of e p
+  pub firsts : (p : ℕ) → firsts_in b.demands.items p ≡ first_count e p
+  pub places : (p : ℕ) → places_in b.demands.items p ≡ places_of e p

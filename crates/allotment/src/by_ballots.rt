@@ -8,6 +8,7 @@ ghost use Rattle.allotment.specs.Weights.{by_ballot};
 
 use crate::bytes::seat_of;
 use crate::weights::Weigh;
+use rules::found::place_of;
 use rules::words::{Practice, Trainee};
 
 /// Weighs by what is offered, one byte a trainee.
@@ -20,12 +21,7 @@ pub struct ByBallots<'a> {
 fn position(list: &[Practice], p: Practice) -> usize
     ensures { result ≡ position (numbers list.now) p.0 }
 {
-    for i in 0..list.len() {
-        if list[i].0 == p.0 {
-            return i;
-        }
-    }
-    list.len()
+    place_of(list, &p).unwrap_or(list.len())
 }
 
 // Whether a trainee with this list prefers one seat to another.
@@ -43,11 +39,9 @@ fn prefers(list: &[Practice], a: Option<Practice>, b: Option<Practice>) -> bool
 fn offered_to(offered: &[u8], t: Trainee) -> Option<Practice>
     ensures { stored result ≡ offered_by offered.now t.0 }
 {
-    if (t.0 as usize) < offered.len() {
-        seat_of(offered[t.0 as usize])
-    } else {
-        None
-    }
+    offered
+        .get(usize::from(t.0))
+        .and_then(|byte| seat_of(*byte))
 }
 
 impl Weigh for ByBallots<'_> {

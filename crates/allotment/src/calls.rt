@@ -6,12 +6,13 @@ ghost use Rattle.allotment.specs.Calls.{enough, Finds, Verdict, roomy, allot_out
 use crate::bytes::write_seats;
 use crate::challenging::challenge_in;
 use crate::finding::find_in;
-use crate::fits::first_unfit;
+use crate::fits::check_fit;
 use crate::found::Found;
 use crate::load::read;
-use crate::refusals::of_round;
 use rules::roll::Roll;
-use rules::words::{Move, Reason, Refusal, Trainee};
+use rules::words::{Layer, Move, Reason, Refusal, Trainee};
+
+// The two kinds of slots stay apart, here and below: each is promised back by its own name.
 
 /// A fullest unbeaten placement, or the refusal that there is none; 9 with fewer slots of either kind than trainees.
 pub fn find<R: Roll>(
@@ -37,10 +38,10 @@ pub fn allot<R: Roll>(
 {
     let n = roll.trainees() as usize;
     if seats.len() < n {
-        return Err(of_round(Reason::WrongLength, n));
+        return Err(Layer::Round.refusal(Reason::WrongLength, n));
     }
     let found = find(roll, waiting, moves)?;
-    write_seats(&found.seats, n, seats);
+    write_seats(&found.seats[..n], seats);
     Ok(found.seated)
 }
 
@@ -50,10 +51,8 @@ pub fn challenge<R: Roll>(roll: &R, offered: &[u8], rival: &mut [u8]) -> Result<
 {
     let n = roll.trainees() as usize;
     if offered.len() != n || rival.len() < n {
-        return Err(of_round(Reason::WrongLength, n));
+        return Err(Layer::Round.refusal(Reason::WrongLength, n));
     }
-    if let Some(t) = first_unfit(roll, offered) {
-        return Err(of_round(Reason::NotFeasible, t as usize));
-    }
+    check_fit(roll, offered)?;
     Ok(challenge_in(&read(roll), offered, rival))
 }

@@ -1,6 +1,6 @@
 // A heaviest placement by the ballots is a strongest rival of what is offered.
 ghost use Rattle.std.specs.Prelude.{◌≡◌, ◌≤◌, length};
-ghost use Rattle.rules.specs.Meaning.{Lawful, trainees};
+ghost use Rattle.rules.specs.Meaning.{trainees};
 ghost use Rattle.voting.specs.Ballots.{ballot};
 ghost use Rattle.voting.specs.Placements.{Feasible, seating};
 ghost use Rattle.voting.specs.Votes.{Strongest};
@@ -24,51 +24,27 @@ fn write_rival(
     seats: &[Option<Practice>; 400],
     rival: &mut [u8],
 ) -> u16
-    requires lawful { Lawful (entries lists.now) }
     requires fits { Feasible (entries lists.now) (offered_by offered.now) }
     requires heaviest { Heaviest (entries lists.now) (ballot (entries lists.now) (offered_by offered.now)) (seating seats.now) }
     requires room { trainees (entries lists.now) ≤ length rival.old }
     ensures strongest { Strongest (entries lists.now) (offered_by offered.now) result (seating seats.now) }
     ensures written { rival.new ≡ written (trainees (entries lists.now)) (seating seats.now) rival.old }
 {
-    let n = lists.trainees;
+    let n = lists.lists.len();
     let whole = whole_weight(lists, &ByBallots { offered }, seats);
-    write_seats(seats, n, rival);
+    write_seats(&seats[..n], rival);
     (whole - n as u64) as u16
-}
-
-// The strongest rival, found with these slots.
-fn challenge_with(
-    lists: &Lists,
-    offered: &[u8],
-    waiting: &mut [Trainee],
-    moves: &mut [Move],
-    rival: &mut [u8],
-) -> u16
-    requires lawful { Lawful (entries lists.now) }
-    requires fits { Feasible (entries lists.now) (offered_by offered.now) }
-    requires spots { trainees (entries lists.now) ≤ length waiting.old }
-    requires slots { trainees (entries lists.now) ≤ length moves.old }
-    requires room { trainees (entries lists.now) ≤ length rival.old }
-    ensures { Challenged (entries lists.now) offered.now rival.old result rival.new }
-{
-    let table = table_of(lists, &ByBallots { offered });
-    let placed = place(&table, waiting, moves).unwrap();
-    write_rival(lists, offered, &placed.seats, rival)
 }
 
 // The strongest rival, found with slots of its own.
 pub(crate) fn challenge_in(lists: &Lists, offered: &[u8], rival: &mut [u8]) -> u16
-    requires lawful { Lawful (entries lists.now) }
     requires fits { Feasible (entries lists.now) (offered_by offered.now) }
     requires room { trainees (entries lists.now) ≤ length rival.old }
     ensures { Challenged (entries lists.now) offered.now rival.old result rival.new }
 {
-    let mut waiting = [Trainee(0); 400];
-    let mut moves = [Move {
-        trainee: Trainee(0),
-        left: None,
-        taken: Practice(0),
-    }; 400];
-    challenge_with(lists, offered, &mut waiting, &mut moves, rival)
+    let mut waiting = [Trainee::default(); 400];
+    let mut moves = [Move::default(); 400];
+    let table = table_of(lists, &ByBallots { offered });
+    let placed = place(&table, &mut waiting, &mut moves).unwrap();
+    write_rival(lists, offered, &placed.seats, rival)
 }

@@ -1,60 +1,64 @@
 // The table of the engine is filled from lists and a weighing.
-ghost use Rattle.std.specs.Prelude.{◌≡◌, ◌≤◌};
-ghost use Rattle.rules.specs.Meaning.{Lawful};
-ghost use Rattle.assignment.specs.Tables.{entries as opened};
-ghost use Rattle.allotment.specs.Arrays.{chosen};
+ghost use Rattle.std.specs.Prelude.{◌≡◌, ℕ, ◌^◌, ◌<◌, ◌≤◌, map, length, Some, slice_index_or};
+ghost use Rattle.rules.specs.Questions.{numbers};
+ghost use Rattle.assignment.specs.declared.row.Row.{Row};
+ghost use Rattle.assignment.specs.Tables.{entries as opened, Added};
 ghost use Rattle.allotment.specs.Copies.{entries};
-ghost use Rattle.allotment.specs.Tabled.{Gains, Weighed, Tabled, by_lists, emptied};
+ghost use Rattle.allotment.specs.Tabled.{Weighed, Tabled, by_lists, choice_by, emptied};
+ghost use Rattle.allotment.specs.Vectors.{no_practice};
 
-use crate::lists::{Choices, Lists};
+use crate::lists::Lists;
 use crate::weights::Weigh;
-use assignment::row::Row;
-use assignment::table::Table;
-use rules::words::Trainee;
+use arrayvec::ArrayVec;
+use assignment::row::Choice;
+use assignment::table::{NotTaken, Table};
+use rules::words::{Practice, Trainee};
 
-// What each choice of a list weighs.
-fn weights_of<W: Weigh>(weighing: &W, t: Trainee, row: &Choices) -> [u32; 12]
-    requires { row.now.len ≤ 12 }
-    ensures { Gains (W.Weigh.weighs weighing.now t.0 (chosen row.now)) row.now row.now.len result }
+// What each choice of a trainee with this list weighs; by pushes, as a roll is read.
+fn choices_of<W: Weigh>(weighing: &W, t: Trainee, list: &[Practice]) -> ArrayVec<Choice, 12>
+    requires { length list.now ≤ 12 }
+    ensures exact { result.items ≡ map (choice_by (W.Weigh.weighs weighing.now t.0 (numbers list.now))) list.now }
+    ensures modest { (i : ℕ) → i < length list.now → W.Weigh.weighs weighing.now t.0 (numbers list.now) (Some (slice_index_or list.now i no_practice).0) ≤ 2 ^ 30 }
 {
-    let list = row.list();
-    let mut weights = [0; 12];
-    for k in 0..row.len {
-        weights[k] = weighing.weigh(t, list, Some(row.practices[k]));
+    let mut choices = ArrayVec::new();
+    for p in list {
+        choices.push(Choice {
+            practice: *p,
+            weight: weighing.weigh(t, list, Some(*p)),
+        });
     }
-    weights
+    choices
 }
 
-// The row of one trainee.
-fn row_of<W: Weigh>(weighing: &W, t: Trainee, row: &Choices) -> Row
-    requires { row.now.len ≤ 12 }
-    ensures { Weighed (chosen row.now) (W.Weigh.weighs weighing.now t.0 (chosen row.now)) result }
+// Adds the row of a trainee with this list, where it may stand.
+fn add_row<W: Weigh>(
+    weighing: &W,
+    t: Trainee,
+    list: &[Practice],
+    table: &mut Table,
+) -> Result<(), NotTaken>
+    requires { length list.now ≤ 12 }
+    ensures { (r : Row) × Weighed (numbers list.now) (W.Weigh.weighs weighing.now t.0 (numbers list.now)) r × Added table.old r result table.new }
 {
-    Row {
-        len: row.len,
-        choices: row.practices,
-        weights: weights_of(weighing, t, row),
-        none: weighing.weigh(t, row.list(), None),
-    }
+    let choices = choices_of(weighing, t, list);
+    table.add(&choices, weighing.weigh(t, list, None))
 }
 
 // Adds the row of each trainee.
 fn fill<W: Weigh>(lists: &Lists, weighing: &W, table: &mut Table)
-    requires lawful { Lawful (entries lists.now) }
-    requires opened { opened table.old ≡ emptied (entries lists.now) }
+    requires { opened table.old ≡ emptied (entries lists.now) }
     ensures { Tabled (entries lists.now) (by_lists (entries lists.now) (W.Weigh.weighs weighing.now)) table.new }
 {
-    for t in 0..lists.trainees {
-        table.add(row_of(weighing, Trainee(t as u16), &lists.rows[t]));
+    for (t, list) in lists.lists.iter().enumerate() {
+        add_row(weighing, Trainee(t as u16), list, table).unwrap();
     }
 }
 
 // The table of a roll that was read, with these weights.
 pub(crate) fn table_of<W: Weigh>(lists: &Lists, weighing: &W) -> Table
-    requires { Lawful (entries lists.now) }
     ensures { Tabled (entries lists.now) (by_lists (entries lists.now) (W.Weigh.weighs weighing.now)) result }
 {
-    let mut table = Table::new(lists.practices, lists.places).unwrap();
+    let mut table = Table::new(&lists.places).unwrap();
     fill(lists, weighing, &mut table);
     table
 }

@@ -1,65 +1,60 @@
 // What a placement says: who has a seat, and what the seats weigh.
-ghost use Rattle.std.specs.Prelude.{◌≡◌, ◌^◌, ◌<◌, ◌≤◌};
-ghost use Rattle.voting.specs.Placements.{stored, seating, seated};
-ghost use Rattle.voting.specs.Weights.{weight};
-ghost use Rattle.allotment.specs.Copies.{entries};
-ghost use Rattle.allotment.specs.Tabled.{by_lists, WhetherAllWeigh};
+ghost use Rattle.std.specs.Prelude.{◌≡◌, ◌==◌, ◌||◌, ◌^◌, ◌<◌, map, length, is_some, nat_lt, sum, count_by};
+ghost use Rattle.std.specs.List.{list_all};
+ghost use Rattle.voting.specs.Placements.{stored};
+ghost use Rattle.allotment.specs.Vectors.{chosen};
+ghost use Rattle.allotment.specs.Tabled.{beside, weight_at, content_at};
 
 use crate::lists::Lists;
 use crate::weights::Weigh;
+use arrayvec::ArrayVec;
 use rules::words::{Practice, Trainee};
 
-// How many of the first n trainees have a seat.
-pub(crate) fn count_seated(seats: &[Option<Practice>; 400], n: usize) -> u16
-    requires { n ≤ 400 }
-    ensures { result ≡ seated n (seating seats.now) }
+// How many have a seat.
+pub(crate) fn count_seated(seats: &[Option<Practice>]) -> usize
+    ensures { result ≡ count_by is_some seats.now }
 {
-    let mut count = 0;
-    for t in 0..n {
-        if seats[t].is_some() {
-            count += 1;
-        }
-    }
-    count
+    seats.iter().filter(|seat| seat.is_some()).count()
 }
 
-// What a seat weighs for a trainee.
-fn weight_at<W: Weigh>(lists: &Lists, weighing: &W, t: usize, seat: Option<Practice>) -> u32
-    requires { t < lists.now.trainees }
-    ensures exact { result ≡ by_lists (entries lists.now) (W.Weigh.weighs weighing.now) t (stored seat) }
-    ensures modest { result ≤ 2 ^ 30 }
-{
-    weighing.weigh(Trainee(t as u16), lists.rows[t].list(), seat)
-}
-
-// Whether each trainee with a list has a seat that weighs something.
-pub(crate) fn all_weigh<W: Weigh>(
-    lists: &Lists,
+// Whether a trainee has no list, or a seat that weighs something.
+fn is_content<W: Weigh>(
     weighing: &W,
-    seats: &[Option<Practice>; 400],
+    t: Trainee,
+    list: &ArrayVec<Practice, 12>,
+    seat: Option<Practice>,
 ) -> bool
-    ensures { WhetherAllWeigh (entries lists.now) (by_lists (entries lists.now) (W.Weigh.weighs weighing.now)) (seating seats.now) result }
+    ensures { result ≡ ((length list.now.items == 0) || nat_lt 0 (W.Weigh.weighs weighing.now t.0 (chosen list.now) (stored seat))) }
 {
-    for t in 0..lists.trainees {
-        let listed = lists.rows[t].first().is_some();
-        if listed && weight_at(lists, weighing, t, seats[t]) == 0 {
-            return false;
-        }
-    }
-    true
+    list.is_empty() || weighing.weigh(t, list, seat) > 0
+}
+
+// Lists and weighing stay apart, here and in filling: one reading of a roll serves whatever weighing is asked.
+
+// The chain of lists, seats and numbers stands twice: no function can answer an iterator without naming its type.
+
+// Whether each trainee with a list has a seat that weighs something. The numbers of the trainees run beside them: a roll has 400 at most.
+pub(crate) fn all_content<W: Weigh>(lists: &Lists, weighing: &W, seats: &[Option<Practice>]) -> bool
+    ensures { result ≡ list_all (content_at (W.Weigh.weighs weighing.now)) (beside lists.now.lists.items seats.now) }
+{
+    lists.lists.iter().zip(seats).zip(0..400).all(|((list, seat), t)| is_content(
+        weighing,
+        Trainee(t),
+        list,
+        *seat,
+    ))
 }
 
 // What all seats weigh together.
-pub(crate) fn whole_weight<W: Weigh>(
-    lists: &Lists,
-    weighing: &W,
-    seats: &[Option<Practice>; 400],
-) -> u64
-    ensures { result ≡ weight (entries lists.now) (by_lists (entries lists.now) (W.Weigh.weighs weighing.now)) (seating seats.now) }
+pub(crate) fn whole_weight<W: Weigh>(lists: &Lists, weighing: &W, seats: &[Option<Practice>]) -> u64
+    requires { sum (map (weight_at (W.Weigh.weighs weighing.now)) (beside lists.now.lists.items seats.now)) < 2 ^ 64 }
+    ensures { result ≡ sum (map (weight_at (W.Weigh.weighs weighing.now)) (beside lists.now.lists.items seats.now)) }
 {
-    let mut whole = 0;
-    for t in 0..lists.trainees {
-        whole += u64::from(weight_at(lists, weighing, t, seats[t]));
-    }
-    whole
+    lists
+        .lists
+        .iter()
+        .zip(seats)
+        .zip(0..400)
+        .map(|((list, seat), t)| u64::from(weighing.weigh(Trainee(t), list, *seat)))
+        .sum()
 }

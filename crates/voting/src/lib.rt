@@ -6,22 +6,16 @@ ghost use Rattle.voting.specs.Weights.{PricesCertify};
 ghost use Rattle.voting.specs.Worked.{WorkedRounds};
 
 // A feasible placement is unbeaten exactly when it is well-formed, and where it is not, a feasible one that beats it can be named.
-pub fn local_description() -> u8
+pub fn local_description()
     ensures { LocalDescription }
-{
-    0
-}
+{}
 
 // Prices that support a feasible placement show that none weighs more.
-pub fn prices_certify() -> u8
+pub fn prices_certify()
     ensures { PricesCertify }
-{
-    0
-}
+{}
 
 // What holds of the worked rounds.
-pub fn worked_rounds() -> u8
+pub fn worked_rounds()
     ensures { WorkedRounds }
-{
-    0
-}
+{}

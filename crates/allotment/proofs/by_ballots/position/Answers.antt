@@ -1,12 +1,13 @@
-use Rattle.std.proofs.Common.{length, arith}
-use Rattle.allotment.proofs.Listed.{position_found}
+use Rattle.std.proofs.Common.{◌==◌, length, refl, ap, ◌∙◌}
+use Rattle.std.specs.Option.{unwrap_or}
+use Rattle.rules.specs.declared.words.Practice.{Practice}
+use Rattle.rules.proofs.Finding.{passing_in}
+use Rattle.allotment.proofs.Listed.{position_or_end}
 use Rattle.allotment.proofs.by_ballots.position.Goals as goal
-
-pub returns-then-list-i : goal.returns-then-list-i
-returns-then-list-i c =
-    position_found c.args.list.now c.loop-i.i c.args.p.0 (omega arith) c.loop-i.invariant (λ _. c.if-list-i.true)
 
 pub returns : goal.returns
 returns c =
-    position_found c.args.list.now (length c.args.list.now) c.args.p.0 (omega arith) (λ k l. c.loop-i.invariant k (omega arith))
-    (λ l. absurd (omega arith))
+    let list = c.args.list.now in
+    let p = c.args.p.0 in
+    let number = λ (q : Practice). q.0 in
+    c.unwrap_or.ensures ∙ ap (λ o. unwrap_or o (length list)) (c.place_of.ensures ∙ passing_in (λ (q : Practice). q.0 == p) number list p (λ q. refl)) ∙ position_or_end list p
