@@ -15,8 +15,8 @@ reads_choices size practices earlier n = record { back = λ ps rest h. back earl
   where
     back : (earlier : List ℕ) (n : ℕ) (ps rest : List ℕ) → length ps ≡ n → Apart practices earlier ps → choices size practices earlier n (ps ++ rest) ≡ Ok (ps, rest)
     back earlier zero [] rest l h = refl
-    back earlier zero (p ∷ ps) rest l h = let w : ⊥ = omega arith in absurd w
-    back earlier (suc n) [] rest l h = let w : ⊥ = omega arith in absurd w
+    back earlier zero (p ∷ ps) rest l h = absurd (omega arith)
+    back earlier (suc n) [] rest l h = absurd (omega arith)
     back earlier (suc n) (p ∷ ps) rest l h =
         ap (λ (o : Result (ℕ × List ℕ) Refusal). and_then o (λ q. and_then (choices size practices (earlier ++ (q.0 ∷ [])) n q.1) (λ qs. Ok (q.0 ∷ qs.0, qs.1))))
         ((reads_one size (off_choice practices earlier)).back p (ps ++ rest) h.0)

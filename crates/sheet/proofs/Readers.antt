@@ -22,11 +22,11 @@ each_behind P (x ∷ xs) ys h = each_behind P xs ys h.1
 -- What a sequence that succeeds has done.
 pub both : {X Y : Type 0} (r : Result X Refusal) (next : X → Result Y Refusal) (y : Y) → and_then r next ≡ Ok y → (x : X) × (r ≡ Ok x) × (next x ≡ Ok y)
 both (Ok x) next y e = (x, refl, e)
-both (Err d) next y e = let z : ◌≡◌ {A = ℕ} 0 1 = cc in let w : ⊥ = omega arith in absurd w
+both (Err d) next y e = absurd (cc)
 
 pub judged_ok : {X : Type 0} (size : ℕ) (o : Option Reason) (left : List ℕ) (x y : X) → judged size o left x ≡ Ok y → (o ≡ None) × (x ≡ y)
 judged_ok size None left x y e = (refl, cc)
-judged_ok size (Some reason) left x y e = let z : ◌≡◌ {A = ℕ} 0 1 = cc in let w : ⊥ = omega arith in absurd w
+judged_ok size (Some reason) left x y e = absurd (cc)
 
 -- `read` takes from the front what `shown` shows of the fine, and nothing else.
 pub record Reads {X : Type 0} (read : Reader X) (shown : X → List ℕ) (Fine : X → Type 0) : Type 0 where
@@ -40,7 +40,7 @@ reads_one size wrong = record { back = back; only = only }
     back x rest h = rw h
 
     only : (bytes : List ℕ) (x : ℕ) (rest : List ℕ) → one size wrong bytes ≡ Ok (x, rest) → (wrong x ≡ None) × (Each Byte bytes → bytes ≡ single x ++ rest)
-    only [] x rest e = let z : ◌≡◌ {A = ℕ} 0 1 = cc in let w : ⊥ = omega arith in absurd w
+    only [] x rest e = absurd (cc)
     only (n ∷ ns) x rest e =
         let j = judged_ok size (wrong n) (n ∷ ns) (n, ns) (x, rest) e in
         let p : n ≡ x = ap (λ (q : ℕ × List ℕ). q.0) j.1 in
@@ -63,8 +63,8 @@ reads_two size wrong = record { back = back; only = only }
     back x rest h = rw (pair_whole x, h)
 
     only : (bytes : List ℕ) (x : ℕ) (rest : List ℕ) → two size wrong bytes ≡ Ok (x, rest) → (wrong x ≡ None) × (Each Byte bytes → bytes ≡ pair x ++ rest)
-    only [] x rest e = let z : ◌≡◌ {A = ℕ} 0 1 = cc in let w : ⊥ = omega arith in absurd w
-    only (hi ∷ []) x rest e = let z : ◌≡◌ {A = ℕ} 0 1 = cc in let w : ⊥ = omega arith in absurd w
+    only [] x rest e = absurd (cc)
+    only (hi ∷ []) x rest e = absurd (cc)
     only (hi ∷ (lo ∷ ns)) x rest e =
         let n : ℕ = 256 * hi + lo in
         let j = judged_ok size (wrong n) (hi ∷ (lo ∷ ns)) (n, ns) (x, rest) e in
@@ -77,8 +77,8 @@ reads_several {X} {read} {shown} {Fine} r n = record { back = λ xs rest h. back
   where
     back : (n : ℕ) (xs : List X) (rest : List ℕ) → length xs ≡ n → Each Fine xs → several read n (flat_map shown xs ++ rest) ≡ Ok (xs, rest)
     back zero [] rest l h = refl
-    back zero (x ∷ xs) rest l h = let w : ⊥ = omega arith in absurd w
-    back (suc n) [] rest l h = let w : ⊥ = omega arith in absurd w
+    back zero (x ∷ xs) rest l h = absurd (omega arith)
+    back (suc n) [] rest l h = absurd (omega arith)
     back (suc n) (x ∷ xs) rest l h =
         rw (append_assoc (shown x) (flat_map shown xs) rest, r.back x (flat_map shown xs ++ rest) h.0, back n xs rest (omega arith) h.1)
 

@@ -1,7 +1,7 @@
 -- What bytes that open hold, and where.
-use Rattle.std.proofs.Common.{◌≡◌, ℕ, zero, suc, ◌+◌, ◌-◌, ◌*◌, ◌/◌, ◌%◌, ◌<◌, ◌≤◌, ◌⊎◌, List, [], ◌∷◌, ◌++◌, length, get_or, take, drop, Ok, Err, Result, sym, refl, ap, ◌∙◌, inl, inr, add-zero, arith}
+use Rattle.std.proofs.Common.{◌≡◌, ℕ, zero, suc, ◌+◌, ◌-◌, ◌*◌, ◌/◌, ◌%◌, ◌<◌, ◌≤◌, ◌⊎◌, List, [], ◌∷◌, ◌++◌, length, get_or, take, drop, Ok, Err, Result, sym, refl, ap, ◌∙◌, inl, inr, arith}
 use Rattle.std.specs.List.{flat_map}
-use Rattle.std.proofs.lemmas.List.{append_assoc, length-append, length-drop, drop_at, take_at, drop_all, drop_more, drop-drop, get_or-drop}
+use Rattle.std.proofs.lemmas.List.{append_assoc, length-append, drop_at, take_at, drop_all, drop_more}
 use Rattle.rules.specs.declared.words.Refusal.{Refusal}
 use Rattle.rules.specs.Meaning.{Entries, Lawful, nobody, trainees, practices, places_of, list_of}
 use Rattle.rules.proofs.Lawfully.{strict_of}
@@ -18,8 +18,8 @@ nobody_lawful =
     record {
       few_trainees = omega arith;
       few_practices = omega arith;
-      places_range = λ p l. let w : ⊥ = omega arith in absurd w;
-      lists_strict = λ t l. let w : ⊥ = omega arith in absurd w;
+      places_range = λ p l. absurd (omega arith);
+      lists_strict = λ t l. absurd (omega arith);
     }
 
 pub opened_lawful : (b : List ℕ) → Lawful (opened b).0
@@ -71,7 +71,7 @@ filing_at b bytes = go (opened b).0 (opened b).1 (opened_either b bytes)
 
 -- The places of a practice among the two bytes of each.
 pairs_at : (ns rest : List ℕ) (p : ℕ) → p < length ns → (2 * p + 1 < length (flat_map pair ns ++ rest)) × (256 * get_or (flat_map pair ns ++ rest) (2 * p) 0 + get_or (flat_map pair ns ++ rest) (2 * p + 1) 0 ≡ get_or ns p 0)
-pairs_at [] rest p l = let w : ⊥ = omega arith in absurd w
+pairs_at [] rest p l = absurd (omega arith)
 pairs_at (n ∷ ns) rest zero l = (omega arith, pair_whole n)
 pairs_at (n ∷ ns) rest (suc p) l =
     let h = pairs_at ns rest p (omega arith) in
@@ -119,34 +119,28 @@ lists_at b bytes l = go (opened b).0 (opened b).1 (opened_either b bytes) l
         let w : ⊥ = omega arith in
         absurd w
 
--- A list at the front of those from the i-th on, behind its length, and where the next begins.
-pub record Stands (lists : List (List ℕ)) (tail b : List ℕ) (i at : ℕ) : Type 0 where
-  pub within : at + 1 + get_or b at 0 ≤ length b
-  pub here : take (get_or b at 0) (drop (at + 1) b) ≡ get_or lists i []
-  pub next : drop (at + (1 + get_or b at 0)) b ≡ flat_map measured (drop (i + 1) lists) ++ tail
+-- A list at the front of those from the i-th on, behind its length, and the next behind it.
+pub record Stands (lists : List (List ℕ)) (tail b : List ℕ) (i : ℕ) : Type 0 where
+  pub within : 1 + get_or b 0 0 ≤ length b
+  pub here : take (get_or b 0 0) (drop 1 b) ≡ get_or lists i []
+  pub next : drop (1 + get_or b 0 0) b ≡ flat_map measured (drop (i + 1) lists) ++ tail
 
-stands_by : (list rest b : List ℕ) (at : ℕ) → drop at b ≡ length list ∷ (list ++ rest) → (at + 1 + length list ≤ length b) × (get_or b at 0 ≡ length list) × (drop (at + 1) b ≡ list ++ rest)
-stands_by list rest b at front =
-    let size = length-drop at b in
-    let ends : length (drop at b) ≡ suc (length list + length rest) = ap length front ∙ ap suc (length-append list rest) in (
+stands_by : (list rest : List ℕ) (n : ℕ) (front : List ℕ) → front ≡ length list ∷ (list ++ rest) → n ≡ get_or front 0 0 → (1 + n ≤ length front) × (take n (drop 1 front) ≡ list) × (drop (1 + n) front ≡ rest)
+stands_by list rest n front e q =
+    let l : n ≡ length list = q ∙ ap (λ (s : List ℕ). get_or s 0 0) e in
+    let size : length front ≡ suc (length list + length rest) = ap length e ∙ ap suc (length-append list rest) in (
       omega arith,
-      ap (λ (k : ℕ). get_or b k 0) (sym (add-zero at)) ∙ sym (get_or-drop at b 0 0) ∙ ap (λ (s : List ℕ). get_or s 0 0) front,
-      sym (drop-drop 1 at b) ∙ ap (drop 1) front,
+      ap (λ (s : List ℕ). take n (drop 1 s)) e ∙ take_at list rest n (sym l),
+      ap (λ (s : List ℕ). drop (1 + n) s) e ∙ drop_at (length list ∷ list) rest (1 + n) (omega arith),
     )
 
-pub stands : (lists : List (List ℕ)) (tail b : List ℕ) (i at : ℕ) → i < length lists → drop at b ≡ flat_map measured (drop i lists) ++ tail → Stands lists tail b i at
-stands lists tail b i at l e =
+pub stands : (lists : List (List ℕ)) (tail b : List ℕ) (i : ℕ) → i < length lists → b ≡ flat_map measured (drop i lists) ++ tail → Stands lists tail b i
+stands lists tail b i l e =
     let list : List ℕ = get_or lists i [] in
     let rest : List ℕ = flat_map measured (drop (i + 1) lists) ++ tail in
     let s =
-    stands_by list rest b at (e ∙ ap (λ (s : List (List ℕ)). flat_map measured s ++ tail) (drop_more lists i [] l) ∙ ap (λ (s : List ℕ). length list ∷ s) (append_assoc list (flat_map measured (drop (i + 1) lists)) tail)) in
-    let n : length list ≡ get_or b at 0 = sym s.1 in
-    let on : at + (1 + get_or b at 0) ≡ at + 1 + get_or b at 0 = omega arith in
-    record {
-      within = omega (arith, s.0);
-      here = ap (take (get_or b at 0)) s.2 ∙ take_at list rest (get_or b at 0) n;
-      next = ap (λ (k : ℕ). drop k b) on ∙ sym (drop-drop (get_or b at 0) (at + 1) b) ∙ ap (drop (get_or b at 0)) s.2 ∙ drop_at list rest (get_or b at 0) n;
-    }
+    stands_by list rest (get_or b 0 0) b (e ∙ ap (λ (s : List (List ℕ)). flat_map measured s ++ tail) (drop_more lists i [] l) ∙ ap (λ (s : List ℕ). length list ∷ s) (append_assoc list (flat_map measured (drop (i + 1) lists)) tail)) refl in
+    record { within = s.0; here = s.1; next = s.2 }
 
 -- A list of anybody is short.
 pub list_short : (e : Entries) → Lawful e → (t : ℕ) → length (list_of e t) ≤ 12

@@ -14,7 +14,7 @@ use Rattle.sheet.proofs.Readers.{Each}
 use Rattle.sheet.proofs.Lists.{Apart, FineList}
 
 pub each_at : {X : Type 0} (P : X → Type 0) (d : X) (xs : List X) → Each P xs → (k : ℕ) → k < length xs → P (get_or xs k d)
-each_at P d [] h k l = let w : ⊥ = omega arith in absurd w
+each_at P d [] h k l = absurd (omega arith)
 each_at P d (x ∷ xs) h zero l = h.0
 each_at P d (x ∷ xs) h (suc k) l = each_at P d xs h.1 k (omega arith)
 
@@ -39,8 +39,8 @@ either_passed false c r e = inr (passed c None r e).0
 either_passes : (b c : Bool) (r : Reason) → (b ≡ true) ⊎ (c ≡ true) → cond b None (cond c None (Some r)) ≡ None
 either_passes true c r h = refl
 either_passes false true r h = refl
-either_passes false false r (inl h) = let z : ◌≡◌ {A = ℕ} 0 1 = cc in let w : ⊥ = omega arith in absurd w
-either_passes false false r (inr h) = let z : ◌≡◌ {A = ℕ} 0 1 = cc in let w : ⊥ = omega arith in absurd w
+either_passes false false r (inl h) = absurd (cc)
+either_passes false false r (inr h) = absurd (cc)
 
 pub count_either : (trainees n : ℕ) → off_count trainees n ≡ None → (n ≡ 0) ⊎ (n ≡ trainees)
 count_either trainees n e = go (either_passed (eqb n 0) (eqb n trainees) CountOutOfBounds e)
@@ -74,7 +74,7 @@ list_both practices p earlier e =
 
 -- Apart, choice by choice
 pub apart_at : (practices : ℕ) (earlier ps : List ℕ) → Apart practices earlier ps → (k : ℕ) → k < length ps → (get_or ps k 0 < practices) × (listed (earlier ++ take k ps) (get_or ps k 0) ≡ false)
-apart_at practices earlier [] h k l = let w : ⊥ = omega arith in absurd w
+apart_at practices earlier [] h k l = absurd (omega arith)
 apart_at practices earlier (p ∷ ps) h zero l =
     let b = list_both practices p earlier h.0 in (b.0, rw (append-nil earlier) b.1)
 apart_at practices earlier (p ∷ ps) h (suc k) l =

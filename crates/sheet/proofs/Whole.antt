@@ -1,5 +1,5 @@
 -- The whole sheet.
-use Rattle.std.proofs.Common.{◌≡◌, ℕ, List, [], ◌∷◌, ◌++◌, length, get_or, None, Ok, sym, refl, ap, ◌∙◌, subst, arith}
+use Rattle.std.proofs.Common.{◌≡◌, ℕ, List, [], ◌∷◌, ◌++◌, length, get_or, None, Ok, sym, refl, ap, ◌∙◌, subst}
 use Rattle.std.proofs.lemmas.List.{append-nil}
 use Rattle.rules.specs.Meaning.{Entries, Lawful}
 use Rattle.rules.specs.Refusals.{off_places}
@@ -39,7 +39,7 @@ accepts b e f s =
 
 done : {X : Type 0} (size : ℕ) (rest : List ℕ) (x y : X) → finished size rest x ≡ Ok y → (rest ≡ []) × (x ≡ y)
 done size [] x y e = (refl, cc)
-done size (b ∷ rest) x y e = let z : ◌≡◌ {A = ℕ} 0 1 = cc in let w : ⊥ = omega arith in absurd w
+done size (b ∷ rest) x y e = absurd (cc)
 
 -- What was read, section by section.
 pub record Sections (b : List ℕ) (e : Entries) (f : Filing) : Type 0 where

@@ -8,19 +8,17 @@ ghost use Rattle.sheet.specs.Told.{accepted};
 ghost use Rattle.sheet.specs.Opened.{counts_read};
 
 use crate::counts::Counts;
-use crate::numbers::finish;
-use crate::sections::{filing_section, practices_section, trainees_section};
+use crate::unread::Unread;
 use rules::words::Refusal;
 
 // Reads the bytes once, from the front.
 pub(crate) fn read_counts(bytes: &[u8]) -> Result<Counts, Refusal>
     ensures { result ≡ counts_read (reading bytes.now) }
 {
-    let size = bytes.len();
-    let (practices, lists) = practices_section(size, bytes)?;
-    let (trainees, filing) = trainees_section(size, practices, lists)?;
-    let (filed, rest) = filing_section(size, practices, trainees, filing)?;
-    finish(size, rest)?;
+    let (practices, lists) = Unread::new(bytes).practices()?;
+    let (trainees, filing) = lists.trainees(practices)?;
+    let (filed, rest) = filing.filing(practices, trainees)?;
+    rest.finish()?;
     Ok(Counts {
         practices,
         trainees,
@@ -35,6 +33,6 @@ pub fn check(bytes: &[u8]) -> Result<(), Refusal>
     ensures only { result ≡ Ok tt → (e : Entries) × (f : Filing) × SheetOf e f bytes.now }
     ensures every { (e : Entries) (f : Filing) → SheetOf e f bytes.now → result ≡ Ok tt }
 {
-    let _counts = read_counts(bytes)?;
+    read_counts(bytes)?;
     Ok(())
 }

@@ -3,9 +3,9 @@
 
 pub mod check;
 mod counts;
-mod numbers;
+pub mod numbers;
 pub mod open_sheet;
 pub mod opening;
-pub mod refusal;
+mod reading;
 mod sections;
-pub mod wrong;
+mod unread;

@@ -1,5 +1,5 @@
 // Opening bytes as a roll with a filing.
-ghost use Rattle.std.specs.Prelude.{◌≡◌};
+ghost use Rattle.std.specs.Prelude.{◌≡◌, ◌==◌, position as first_passing};
 ghost use Rattle.rules.specs.Meaning.{Entries, list_of};
 ghost use Rattle.rules.proofs.Lawfully.{lawful_from};
 ghost use Rattle.sheet.specs.Filing.{Filing};
@@ -10,21 +10,13 @@ ghost use Rattle.sheet.specs.Opening.{entries_in, filing_in};
 use crate::check::read_counts;
 use crate::counts::Counts;
 use crate::open_sheet::OpenSheet;
-use crate::wrong::position;
 use rules::roll::Roll;
 use rules::words::{Practice, Trainee};
 
 fn opened_counts(bytes: &[u8]) -> Counts
     ensures { result ≡ counts_of (opened bytes.now) }
 {
-    match read_counts(bytes) {
-        Ok(counts) => counts,
-        Err(_) => Counts {
-            practices: 0,
-            trainees: 0,
-            filed: 0,
-        },
-    }
+    read_counts(bytes).unwrap_or_default()
 }
 
 // Bytes that are no sheet open as nobody, with nothing filed.
@@ -35,6 +27,13 @@ pub fn open(bytes: &[u8]) -> OpenSheet<'_>
 {
     let counts = opened_counts(bytes);
     OpenSheet { bytes, counts }
+}
+
+// Where a practice first stands on a list, if it does. By `place_of` p would first be narrowed to a byte, with an answer of its own where it is greater: no plainer.
+fn position(list: &[u8], p: u16) -> Option<usize>
+    ensures { result ≡ first_passing (λ q. q == p) list.now }
+{
+    list.iter().position(|q| u16::from(*q) == p)
 }
 
 impl OpenSheet<'_> {
@@ -50,25 +49,20 @@ impl OpenSheet<'_> {
         ensures { result.now ≡ list_of (entries_in self.now) t.0 }
     {
         if t.0 >= self.trainees() {
-            return &self.bytes[0..0];
+            return &[];
         }
-        let mut at = 4 + 2 * self.practices() as usize;
-        for i in 0..t.0 {
-            at += 1 + self.bytes[at] as usize;
+        let mut lists = &self.bytes[4 + 2 * self.practices() as usize..];
+        for _ in 0..t.0 {
+            lists = &lists[1 + lists[0] as usize..];
         }
-        &self.bytes[at + 1..at + 1 + self.bytes[at] as usize]
+        &lists[1..1 + lists[0] as usize]
     }
 
     // A trainee's filed byte.
     pub fn filed(&self, t: Trainee) -> Option<u8>
         ensures { result ≡ filed_in (filing_in self.now) t.0 }
     {
-        let filing = self.filing();
-        if (t.0 as usize) < filing.len() {
-            Some(filing[t.0 as usize])
-        } else {
-            None
-        }
+        self.filing().get(t.0 as usize).copied()
     }
 }
 
@@ -88,7 +82,7 @@ impl Roll for OpenSheet<'_> {
     fn places_of(&self, p: Practice) -> u16 {
         if p.0 < self.practices() {
             let at = 2 + 2 * p.0 as usize;
-            256 * self.bytes[at] as u16 + self.bytes[at + 1] as u16
+            u16::from_be_bytes([self.bytes[at], self.bytes[at + 1]])
         } else {
             0
         }
@@ -99,17 +93,12 @@ impl Roll for OpenSheet<'_> {
     }
 
     fn choice(&self, t: Trainee, k: u8) -> Option<Practice> {
-        let list = self.list(t);
-        if (k as usize) < list.len() {
-            Some(Practice(list[k as usize] as u16))
-        } else {
-            None
-        }
+        let p = self.list(t).get(k as usize)?;
+        Some(Practice(u16::from(*p)))
     }
 
     fn position(&self, t: Trainee, p: Practice) -> Option<u8> {
-        let list = self.list(t);
-        let k = position(list, p.0);
-        if k < list.len() { Some(k as u8) } else { None }
+        let k = position(self.list(t), p.0)?;
+        Some(k as u8)
     }
 }

@@ -1,91 +1,80 @@
 // The sections of a sheet.
-ghost use Rattle.std.specs.Prelude.{◌≡◌, []};
+ghost use Rattle.std.specs.Prelude.{◌≡◌, [], IfOk};
 ghost use Rattle.rules.specs.Refusals.{off_places};
-ghost use Rattle.sheet.specs.Reading.{one, two, several, choices, list, off_filed, practices_section, trainees_section, filing_section};
+ghost use Rattle.sheet.specs.Reading.{one, two, choices, list, off_filed, practices_section, trainees_section, filing_section};
 ghost use Rattle.sheet.specs.Told.{told, left, rest_told, numbered};
 
-use crate::numbers::{choice, count, filed, filed_count, list_length, places};
+use crate::numbers::{check_choice, check_count, check_filed, check_filed_count};
+use crate::unread::Unread;
+use rules::entry::check_number;
 use rules::words::Refusal;
 
-fn all_places(size: usize, n: u16, s: &[u8]) -> Result<&[u8], Refusal>
-    ensures { rest_told result ≡ left (several (two size off_places) n s.now) }
-{
-    let mut rest = s;
-    for i in 0..n {
-        rest = places(size, rest)?;
+impl<'a> Unread<'a> {
+    // The places of a practice.
+    fn places(self) -> Result<Unread<'a>, Refusal>
+        ensures size { IfOk result (λ u. u.size ≡ self.entry.size) }
+        ensures reads { rest_told result ≡ left (two self.entry.size off_places self.entry.rest.now) }
+    {
+        let (_, left) = self.two(check_number)?;
+        Ok(left)
     }
-    Ok(rest)
-}
 
-fn all_filed(size: usize, practices: u16, n: u16, s: &[u8]) -> Result<&[u8], Refusal>
-    ensures { rest_told result ≡ left (several (one size (off_filed practices)) n s.now) }
-{
-    let mut rest = s;
-    for i in 0..n {
-        rest = filed(size, practices, rest)?;
+    // A trainee's filed byte.
+    fn filed(self, practices: u16) -> Result<Unread<'a>, Refusal>
+        ensures size { IfOk result (λ u. u.size ≡ self.entry.size) }
+        ensures reads { rest_told result ≡ left (one self.entry.size (off_filed practices) self.entry.rest.now) }
+    {
+        let (_, left) = self.one(|p| check_filed(practices, p))?;
+        Ok(left)
     }
-    Ok(rest)
-}
 
-fn choices(size: usize, practices: u16, n: u8, s: &[u8]) -> Result<&[u8], Refusal>
-    ensures { rest_told result ≡ left (choices size practices [] n s.now) }
-{
-    let mut rest = s;
-    for i in 0..n as usize {
-        rest = choice(size, practices, &s[0..i], rest)?;
+    // So many choices of one list.
+    fn choices(self, practices: u16, n: u8) -> Result<Unread<'a>, Refusal>
+        ensures size { IfOk result (λ u. u.size ≡ self.entry.size) }
+        ensures reads { rest_told result ≡ left (choices self.entry.size practices [] n self.entry.rest.now) }
+    {
+        let mut left = self;
+        for _ in 0..n {
+            let earlier = &self.rest[..self.rest.len() - left.rest.len()];
+            let (_, behind) = left.one(|p| check_choice(practices, earlier, p))?;
+            left = behind;
+        }
+        Ok(left)
     }
-    Ok(rest)
-}
 
-fn list(size: usize, practices: u16, s: &[u8]) -> Result<&[u8], Refusal>
-    ensures { rest_told result ≡ left (list size practices s.now) }
-{
-    let (n, rest) = list_length(size, s)?;
-    choices(size, practices, n, rest)
-}
-
-fn all_lists(size: usize, practices: u16, n: u16, s: &[u8]) -> Result<&[u8], Refusal>
-    ensures { rest_told result ≡ left (several (list size practices) n s.now) }
-{
-    let mut rest = s;
-    for i in 0..n {
-        rest = list(size, practices, rest)?;
+    // A trainee's list, its length in front.
+    fn list(self, practices: u16) -> Result<Unread<'a>, Refusal>
+        ensures size { IfOk result (λ u. u.size ≡ self.entry.size) }
+        ensures reads { rest_told result ≡ left (list self.entry.size practices self.entry.rest.now) }
+    {
+        let (n, left) = self.one(|n| check_count(12, u16::from(n)))?;
+        left.choices(practices, n)
     }
-    Ok(rest)
-}
 
-// The number of practices, and the bytes behind their places.
-pub(crate) fn practices_section(size: usize, s: &[u8]) -> Result<(u16, &[u8]), Refusal>
-    ensures { told result ≡ numbered (practices_section size s.now) }
-{
-    let (n, rest) = count(size, 100, s)?;
-    let after = all_places(size, n, rest)?;
-    Ok((n, after))
-}
+    // The number of practices, behind which their places stand.
+    pub(crate) fn practices(self) -> Result<(u16, Unread<'a>), Refusal>
+        ensures size { IfOk result (λ p. p.1.size ≡ self.entry.size) }
+        ensures reads { told result ≡ numbered (practices_section self.entry.size self.entry.rest.now) }
+    {
+        self.section(|n| check_count(100, n), |left| left.places())
+    }
 
-// The number of trainees, and the bytes behind their lists.
-pub(crate) fn trainees_section(
-    size: usize,
-    practices: u16,
-    s: &[u8],
-) -> Result<(u16, &[u8]), Refusal>
-    ensures { told result ≡ numbered (trainees_section size practices s.now) }
-{
-    let (n, rest) = count(size, 400, s)?;
-    let after = all_lists(size, practices, n, rest)?;
-    Ok((n, after))
-}
+    // The number of trainees, behind which their lists stand.
+    pub(crate) fn trainees(self, practices: u16) -> Result<(u16, Unread<'a>), Refusal>
+        ensures size { IfOk result (λ p. p.1.size ≡ self.entry.size) }
+        ensures reads { told result ≡ numbered (trainees_section self.entry.size practices self.entry.rest.now) }
+    {
+        self.section(|n| check_count(400, n), |left| left.list(practices))
+    }
 
-// How many bytes are filed, and the bytes behind them.
-pub(crate) fn filing_section(
-    size: usize,
-    practices: u16,
-    trainees: u16,
-    s: &[u8],
-) -> Result<(u16, &[u8]), Refusal>
-    ensures { told result ≡ numbered (filing_section size practices trainees s.now) }
-{
-    let (n, rest) = filed_count(size, trainees, s)?;
-    let after = all_filed(size, practices, n, rest)?;
-    Ok((n, after))
+    // How many bytes are filed, behind which they stand.
+    pub(crate) fn filing(self, practices: u16, trainees: u16) -> Result<(u16, Unread<'a>), Refusal>
+        ensures size { IfOk result (λ p. p.1.size ≡ self.entry.size) }
+        ensures reads { told result ≡ numbered (filing_section self.entry.size practices trainees self.entry.rest.now) }
+    {
+        self.section(
+            |n| check_filed_count(trainees, n),
+            |left| left.filed(practices),
+        )
+    }
 }

@@ -1,7 +1,6 @@
 // Damaged sheets: what they are refused with, and at which byte.
-use rules::words::Reason;
+use rules::words::{Layer, Reason};
 use sheet::check::check;
-use sheet::refusal::of_sheet;
 use std::process::Abort;
 
 // Two practices with a place each, and three trainees, with lists of 2, 1 and 0 choices.
@@ -12,13 +11,14 @@ fn accepted(rt: &impl Abort, bytes: &[u8]) {
 }
 
 fn refused(rt: &impl Abort, bytes: &[u8], reason: Reason, place: usize) {
-    assert_eq!(rt; check(bytes), Err(of_sheet(reason, place)));
+    assert_eq!(rt; check(bytes), Err(Layer::Sheet.refusal(reason, place)));
 }
 
 #[test]
 fn every_front_ends_early(rt: HostRuntime) {
-    for n in 0..16 {
-        refused(&rt, &THREE[0..n], Reason::SheetEnds, n);
+    // n is both the length of a front and the place that it is refused at.
+    for n in 0..THREE.len() {
+        refused(&rt, &THREE[..n], Reason::SheetEnds, n);
     }
     accepted(&rt, &THREE);
 }

@@ -1,34 +1,29 @@
 // The greatest sheet: 400 trainees, 100 practices, lists of 12 and a filing.
-use rules::words::Reason;
+use rules::words::{Layer, Reason};
 use sheet::check::check as check_sheet;
 use sheet::opening::open;
-use sheet::refusal::of_sheet;
 use sheet_writer::write::write;
 
-fn put(bytes: &mut [u8], at: usize, b: u8) {
-    if at < bytes.len() {
-        bytes[at] = b;
+// Its byte at a place: places of 300, the lists from a trainee's own number on, and the last choice of each filed.
+fn byte_at(place: usize) -> u8 {
+    match place {
+        1 => 100,
+        2..=201 => 300u16.to_be_bytes()[place % 2],
+        202 | 5404 => 1,
+        203 | 5405 => 144,
+        204..=5403 => match (place - 204) % 13 {
+            0 => 12,
+            k => (((place - 204) / 13 + k - 1) % 100) as u8,
+        },
+        5406.. => ((place - 5406 + 11) % 100) as u8,
+        _ => 0,
     }
 }
 
-// Places of 300, the lists from a trainee's own number on, and the last choice of each filed.
 fn fill(bytes: &mut [u8]) {
-    put(bytes, 1, 100);
-    for p in 0..100 {
-        put(bytes, 2 + 2 * p, 1);
-        put(bytes, 3 + 2 * p, 44);
+    for (place, byte) in bytes.iter_mut().enumerate() {
+        *byte = byte_at(place);
     }
-    put(bytes, 202, 1);
-    put(bytes, 203, 144);
-    for t in 0..400 {
-        put(bytes, 204 + 13 * t, 12);
-        for k in 0..12 {
-            put(bytes, 205 + 13 * t + k, ((t + k) % 100) as u8);
-        }
-        put(bytes, 5406 + t, ((t + 11) % 100) as u8);
-    }
-    put(bytes, 5404, 1);
-    put(bytes, 5405, 144);
 }
 
 #[test]
@@ -40,7 +35,7 @@ fn just_fits(rt: HostRuntime) {
     let mut buffer = [0; 5806];
     assert_eq!(rt;
         write(&sheet, sheet.filing(), &mut buffer[0..5805]),
-        Err(of_sheet(Reason::WrongLength, 5806))
+        Err(Layer::Sheet.refusal(Reason::WrongLength, 5806))
     );
     assert_eq!(rt; write(&sheet, sheet.filing(), &mut buffer), Ok(5806));
     assert!(rt; bytes == buffer);

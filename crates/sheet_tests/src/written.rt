@@ -1,8 +1,7 @@
 // Sheets that are opened, asked and written back.
 use rules::roll::Roll;
-use rules::words::{Practice, Reason, Trainee};
+use rules::words::{Layer, Practice, Reason, Trainee};
 use sheet::opening::open;
-use sheet::refusal::of_sheet;
 use sheet_writer::write::{rewrite, write};
 
 // Two practices with 1 and 300 places, and three trainees, of whom the first has a seat.
@@ -42,11 +41,11 @@ fn written_back(rt: HostRuntime) {
     assert_eq!(rt; rewrite(b"\x00\x00\x00\x00\x00\x00", &mut buffer), Ok(6));
     assert_eq!(rt;
         rewrite(&FILED[0..18], &mut buffer),
-        Err(of_sheet(Reason::SheetEnds, 18))
+        Err(Layer::Sheet.refusal(Reason::SheetEnds, 18))
     );
     assert_eq!(rt;
         rewrite(&FILED, &mut buffer[0..18]),
-        Err(of_sheet(Reason::WrongLength, 19))
+        Err(Layer::Sheet.refusal(Reason::WrongLength, 19))
     );
 }
 
@@ -56,11 +55,11 @@ fn refused_filings(rt: HostRuntime) {
     let sheet = open(&FILED);
     assert_eq!(rt;
         write(&sheet, &[1], &mut buffer),
-        Err(of_sheet(Reason::WrongLength, 3))
+        Err(Layer::Sheet.refusal(Reason::WrongLength, 3))
     );
     assert_eq!(rt;
         write(&sheet, &[1, 2, 3], &mut buffer),
-        Err(of_sheet(Reason::PracticeNotOffered, 1))
+        Err(Layer::Sheet.refusal(Reason::PracticeNotOffered, 1))
     );
     assert_eq!(rt; write(&sheet, &[], &mut buffer), Ok(16));
     assert!(rt; buffer[15] == 0 && buffer[16] == 7);

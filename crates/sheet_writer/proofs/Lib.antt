@@ -1,5 +1,5 @@
+pub mod Lengths
 pub mod Parts
 pub mod Whole
-pub mod Rolls
 pub mod Refused
 pub mod Trips

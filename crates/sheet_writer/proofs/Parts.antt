@@ -58,15 +58,10 @@ module _ {X : Type 0} (shown : X → List ℕ) (d : X) where
   room_next (x ∷ xs) (suc i) l =
       omega (arith, room_next xs i (omega arith), length-append (shown x) (flat_map shown xs), length-append (shown x) (flat_map shown (take i xs)))
 
-pub set_first : (s : List ℕ) (n : ℕ) → 0 < length s → set s 0 n ≡ n ∷ drop 1 (set s 0 n)
-set_first [] n l = absurd (omega arith)
-set_first (x ∷ s) n l = refl
-
-pub set_both : (s : List ℕ) (a b : ℕ) → length s ≡ 2 → set (set s 0 a) 1 b ≡ a ∷ (b ∷ [])
-set_both [] a b l = absurd (omega arith)
-set_both (x ∷ []) a b l = absurd (omega arith)
-set_both (x ∷ (y ∷ [])) a b l = refl
-set_both (x ∷ (y ∷ (z ∷ s))) a b l = absurd (omega arith)
+-- one byte, and then the rest
+pub first_and_rest : (out : List ℕ) (n : ℕ) (list ys : List ℕ) → n ≡ length list → length out ≡ suc (length list) → ys ≡ list → put_mid 1 (length (set out 0 n) - 1) (set out 0 n) ys ≡ length list ∷ list
+first_and_rest [] n list ys m l e = absurd (omega arith)
+first_and_rest (x ∷ out) n list ys m l e = rw (m, e) (ap (λ (s : List ℕ). length list ∷ s) (ap (λ (s : List ℕ). list ++ s) (drop_all (suc (length out) - 1) out (omega arith)) ∙ append-nil list))
 
 pub length_over : (P E : List ℕ) → length P ≤ length E → length (over P E) ≡ length E
 length_over P E l = omega (arith, length-append P (drop (length P) E), length-drop (length P) E)

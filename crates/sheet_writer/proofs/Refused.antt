@@ -1,27 +1,37 @@
 -- What is not refused: the room there is, and a filing that fits.
-use Rattle.std.proofs.Common.{◌≡◌, ℕ, zero, suc, ◌+◌, ◌<◌, ◌≤◌, true, ◌||◌, eqb, leb, ◌⊎◌, [], ◌∷◌, length, get_or, drop, Some, None, Option, sym, refl, ap, ◌∙◌, inl, inr, add-one, arith}
+use Rattle.std.proofs.Common.{◌≡◌, ℕ, zero, suc, ◌+◌, ◌<◌, ◌≤◌, true, ◌||◌, eqb, leb, ◌⊎◌, [], ◌∷◌, length, get_or, drop, Some, None, Ok, Err, Option, sym, refl, ap, ◌∙◌, inl, inr, add-one, arith}
 use Rattle.std.proofs.lemmas.List.{at_drop_more}
 use Rattle.std.proofs.lemmas.Bool.{or_cases, or_left, or_right, eqb-true, leb-true, eq-eqb, le-leb, lt-leb}
 use Rattle.rules.specs.declared.words.Reason.{Reason}
 use Rattle.rules.specs.declared.words.Reason.TheVariants.{WrongLength}
 use Rattle.rules.specs.declared.words.Refusal.{Refusal}
 use Rattle.rules.specs.Words.{of_sheet}
+use Rattle.rules.specs.Refusals.{answer_of}
 use Rattle.rules.specs.Meaning.{Entries, Lawful, trainees, practices}
 use Rattle.rules.proofs.Checking.{passed}
 use Rattle.sheet.specs.Filing.{Filing, Fitting}
 use Rattle.sheet.specs.Format.{sheet}
 use Rattle.sheet.specs.Reading.{off_filed}
+use Rattle.sheet.proofs.Checked.{wrong_some, wrong_none}
 use Rattle.sheet.proofs.Tests.{filed_either, filed_fine}
 use Rattle.sheet_writer.specs.Writing.{filed_or, filed_refusal, write_refusal}
 
 -- the byte of trainee t, and then the later ones
-pub filed_next : (m t : ℕ) (f : Filing) → t < length f → filed_refusal m t (drop t f) ≡ filed_or (off_filed m (get_or f t 0)) t (filed_refusal m (t + 1) (drop (t + 1) f))
+filed_next : (m t : ℕ) (f : Filing) → t < length f → filed_refusal m t (drop t f) ≡ filed_or (off_filed m (get_or f t 0)) t (filed_refusal m (t + 1) (drop (t + 1) f))
 filed_next m t f l =
     at_drop_more (filed_refusal m t) f t 0 l ∙ ap (λ (j : ℕ). filed_or (off_filed m (get_or f t 0)) t (filed_refusal m j (drop (t + 1) f))) (sym (add-one t))
 
+-- trainee t's filed byte is refused
+pub filed_here : (m t : ℕ) (f : Filing) (e : Reason) → t < length f → Err e ≡ answer_of (off_filed m (get_or f t 0)) → filed_refusal m t (drop t f) ≡ Some (of_sheet e t)
+filed_here m t f e l h = filed_next m t f l ∙ ap (λ (o : Option Reason). filed_or o t (filed_refusal m (t + 1) (drop (t + 1) f))) (wrong_some (off_filed m (get_or f t 0)) e h)
+
+-- or passes
+pub filed_passes : (m t : ℕ) (f : Filing) → t < length f → Ok tt ≡ answer_of (off_filed m (get_or f t 0)) → filed_refusal m t (drop t f) ≡ filed_refusal m (t + 1) (drop (t + 1) f)
+filed_passes m t f l h = filed_next m t f l ∙ ap (λ (o : Option Reason). filed_or o t (filed_refusal m (t + 1) (drop (t + 1) f))) (wrong_none (off_filed m (get_or f t 0)) h)
+
 filed_none : (o : Option Reason) (t : ℕ) (later : Option Refusal) → filed_or o t later ≡ None → (o ≡ None) × (later ≡ None)
 filed_none None t later h = (refl, h)
-filed_none (Some r) t later h = let z : ◌≡◌ {A = ℕ} 0 1 = cc in absurd (omega arith)
+filed_none (Some r) t later h = absurd (cc)
 
 filed_all : (m t : ℕ) (f : Filing) → filed_refusal m t f ≡ None → (k : ℕ) → k < length f → off_filed m (get_or f k 0) ≡ None
 filed_all m t [] h k l = absurd (omega arith)

@@ -1,5 +1,5 @@
 -- What is written reads as what it was written from, and what was read is written as the same bytes.
-use Rattle.std.proofs.Common.{◌≡◌, ℕ, ◌<◌, ◌≤◌, leb, ◌⊎◌, List, length, take, Some, None, Ok, Err, Option, Result, sym, refl, ap, ◌∙◌, inl, inr, arith}
+use Rattle.std.proofs.Common.{◌≡◌, ℕ, ◌<◌, ◌≤◌, leb, ◌⊎◌, List, length, take, Some, None, Ok, Err, Option, Result, sym, refl, ap, ◌∙◌, inl, inr}
 use Rattle.std.proofs.lemmas.Bool.{cases_lt, le-leb, lt-leb, cond-true, cond-false}
 use Rattle.rules.specs.declared.words.Refusal.{Refusal}
 use Rattle.rules.specs.Meaning.{Entries, Lawful}
@@ -21,18 +21,18 @@ pub record Trip (e : Entries) (f : Filing) (buffer : List ℕ) (r : Result ℕ R
   pub reads : (n : ℕ) → r ≡ Ok n → reading (take n out) ≡ Ok (e, f)
   pub opens : (n : ℕ) → r ≡ Ok n → opened (take n out) ≡ (e, f)
 
-pub trip_refused : (e : Entries) (f : Filing) (buffer : List ℕ) (r : Refusal) → Some r ≡ write_refusal e f (length buffer) → Trip e f buffer (Err r) buffer
+pub trip_refused : (e : Entries) (f : Filing) (buffer : List ℕ) (r : Refusal) → write_refusal e f (length buffer) ≡ Some r → Trip e f buffer (Err r) buffer
 trip_refused e f buffer r h =
     record {
-      outcome = ap (λ (o : Option Refusal). written o (sheet e f) buffer) (sym h);
-      reads = λ n q. let z : ◌≡◌ {A = ℕ} 0 1 = cc in absurd (omega arith);
-      opens = λ n q. let z : ◌≡◌ {A = ℕ} 0 1 = cc in absurd (omega arith);
+      outcome = ap (λ (o : Option Refusal). written o (sheet e f) buffer) h;
+      reads = λ n q. absurd (cc);
+      opens = λ n q. absurd (cc);
     }
 
-pub trip_written : (e : Entries) (f : Filing) (buffer out : List ℕ) (n : ℕ) → Lawful e → None ≡ write_refusal e f (length buffer) → n ≡ length (sheet e f) → out ≡ over (sheet e f) buffer → Trip e f buffer (Ok n) out
+pub trip_written : (e : Entries) (f : Filing) (buffer out : List ℕ) (n : ℕ) → Lawful e → write_refusal e f (length buffer) ≡ None → n ≡ length (sheet e f) → out ≡ over (sheet e f) buffer → Trip e f buffer (Ok n) out
 trip_written e f buffer out n law h l w =
     record {
-      outcome = ap (λ (o : Option Refusal). written o (sheet e f) buffer) (sym h) ∙ both n out l w;
+      outcome = ap (λ (o : Option Refusal). written o (sheet e f) buffer) h ∙ both n out l w;
       reads = back;
       opens = λ m q. ap read_or_nobody (back m q);
     }
@@ -41,7 +41,7 @@ trip_written e f buffer out n law h l w =
     both n out l w = rw (l, w)
 
     fit : Fitting e f
-    fit = (writable e f (length buffer) (sym h)).fits
+    fit = (writable e f (length buffer) h).fits
 
     back : (m : ℕ) → ◌≡◌ {A = Result ℕ Refusal} (Ok n) (Ok m) → reading (take m out) ≡ Ok (e, f)
     back m q =
@@ -65,7 +65,7 @@ sheet_again b buffer e f s =
 
 accepted_ok : {X : Type 0} (r : Result X Refusal) → Ok tt ≡ accepted r → (x : X) × (r ≡ Ok x)
 accepted_ok (Ok x) e = (x, refl)
-accepted_ok (Err d) e = let z : ◌≡◌ {A = ℕ} 0 1 = cc in absurd (omega arith)
+accepted_ok (Err d) e = absurd (cc)
 
 -- accepted bytes, opened and written again
 pub written_again : (b buffer : List ℕ) (e : Entries) (f : Filing) → Bytes b → Ok tt ≡ accepted (reading b) → e ≡ (opened b).0 → f ≡ (opened b).1 → rewrite_outcome b buffer ≡ write_outcome e f buffer

@@ -1,16 +1,16 @@
 // What writing is refused with, if with anything.
 ghost use Rattle.std.specs.Prelude.{◌≡◌, ◌≤◌, length};
 ghost use Rattle.rules.specs.Meaning.{practices};
+ghost use Rattle.rules.specs.Refusals.{answer_of};
 ghost use Rattle.sheet.specs.Format.{sheet};
 ghost use Rattle.sheet_writer.specs.Writing.{filed_refusal, write_refusal};
 
 use crate::lists::lists_length;
 use rules::roll::Roll;
-use rules::words::{Reason, Refusal};
-use sheet::refusal::of_sheet;
-use sheet::wrong::off_filed;
+use rules::words::{Layer, Reason, Refusal};
+use sheet::numbers::check_filed;
 
-// How many bytes the sheet takes.
+// How many bytes the sheet takes. Roll and filing stay two, and the filing's bound a clause of three: a struct of them would have to be made twice.
 fn sheet_length<R: Roll>(roll: &R, filing: &[u8]) -> usize
     requires { length filing.now ≤ 400 }
     ensures { result ≡ length (sheet (R.entries roll.now) filing.now) }
@@ -18,28 +18,26 @@ fn sheet_length<R: Roll>(roll: &R, filing: &[u8]) -> usize
     6 + 2 * roll.practices() as usize + lists_length(roll) + filing.len()
 }
 
-// The lowest trainee for whom something else than a practice or 255 is filed.
-fn filed_refusal(practices: u16, filing: &[u8]) -> Option<Refusal>
-    ensures { result ≡ filed_refusal practices 0 filing.now }
+// Each filed byte is a practice or 255: the place is the lowest trainee for whom it is not.
+fn check_filing(practices: u16, filing: &[u8]) -> Result<(), Refusal>
+    ensures { result ≡ answer_of (filed_refusal practices 0 filing.now) }
 {
     for (t, p) in filing.iter().enumerate() {
-        if let Some(reason) = off_filed(practices, *p) {
-            return Some(of_sheet(reason, t));
-        }
+        check_filed(practices, *p).map_err(|reason| Layer::Sheet.refusal(reason, t))?;
     }
-    None
+    Ok(())
 }
 
-pub(crate) fn write_refusal<R: Roll>(roll: &R, filing: &[u8], room: usize) -> Option<Refusal>
-    ensures { result ≡ write_refusal (R.entries roll.now) filing.now room }
+pub(crate) fn check_write<R: Roll>(roll: &R, filing: &[u8], room: usize) -> Result<(), Refusal>
+    ensures { result ≡ answer_of (write_refusal (R.entries roll.now) filing.now room) }
 {
     let trainees = roll.trainees() as usize;
-    if filing.len() != 0 && filing.len() != trainees {
-        return Some(of_sheet(Reason::WrongLength, trainees));
+    if !filing.is_empty() && filing.len() != trainees {
+        return Err(Layer::Sheet.refusal(Reason::WrongLength, trainees));
     }
     let size = sheet_length(roll, filing);
     if room < size {
-        return Some(of_sheet(Reason::WrongLength, size));
+        return Err(Layer::Sheet.refusal(Reason::WrongLength, size));
     }
-    filed_refusal(roll.practices(), filing)
+    check_filing(roll.practices(), filing)
 }

@@ -12,21 +12,21 @@ fn put_pair(v: u16, out: &mut [u8])
     requires { length out.old ≡ 2 }
     ensures { out.new ≡ pair v }
 {
-    out[0] = (v / 256) as u8;
-    out[1] = (v % 256) as u8;
+    out.copy_from_slice(&v.to_be_bytes());
 }
 
 fn put_places<R: Roll>(roll: &R, out: &mut [u8])
     requires { length out.old ≡ length (flat_map pair (R.entries roll.now).places) }
     ensures { out.new ≡ flat_map pair (R.entries roll.now).places }
 {
-    let mut at = 0;
+    // By place: over chunks, or over a part that shrinks, nothing is known afterwards of what was written (tried: the proof did not close).
     for p in 0..roll.practices() {
+        let at = 2 * p as usize;
         put_pair(roll.places_of(Practice(p)), &mut out[at..at + 2]);
-        at += 2;
     }
 }
 
+// The three sections have a count and a rest each. One function for all would take the rest as a closure over the buffer and be no shorter.
 pub(crate) fn put_practices<R: Roll>(roll: &R, out: &mut [u8])
     requires { length out.old ≡ length (section pair (R.entries roll.now).places) }
     ensures { out.new ≡ section pair (R.entries roll.now).places }

@@ -7,7 +7,7 @@ ghost use Rattle.sheet_writer.specs.Over.{over};
 ghost use Rattle.sheet_writer.specs.Writing.{write_outcome, rewrite_outcome};
 
 use crate::lists::lists_length;
-use crate::refusal::write_refusal;
+use crate::refusal::check_write;
 use crate::sections::{put_filing, put_practices, put_trainees};
 use rules::roll::Roll;
 use rules::words::Refusal;
@@ -36,10 +36,8 @@ pub fn write<R: Roll>(roll: &R, filing: &[u8], buffer: &mut [u8]) -> Result<usiz
     ensures reads { (n : ℕ) → result ≡ Ok n → reading (take n buffer.new) ≡ Ok (R.entries roll.now, filing.now) }
     ensures opens { (n : ℕ) → result ≡ Ok n → opened (take n buffer.new) ≡ (R.entries roll.now, filing.now) }
 {
-    match write_refusal(roll, filing, buffer.len()) {
-        Some(refusal) => Err(refusal),
-        None => Ok(put_sheet(roll, filing, buffer)),
-    }
+    check_write(roll, filing, buffer.len())?;
+    Ok(put_sheet(roll, filing, buffer))
 }
 
 // An accepted sheet, opened and written again with its own filing, is the same bytes.

@@ -1,15 +1,15 @@
-use Rattle.std.proofs.Common.{rules}
-use Rattle.std.proofs.lemmas.Result.{err_from_is_err_and}
-use Rattle.sheet.proofs.Accepted.{answers_ok, answers_err}
+use Rattle.sheet.proofs.Accepted.{bytes_fit, counted_sheet, sheet_counted}
+use Rattle.sheet.proofs.Whole.{reads_the_sheets}
 use Rattle.sheet.proofs.check.check.Goals as goal
 
-pub returns-in_err-_counts : goal.returns-in_err-_counts
-returns-in_err-_counts c =
-    let p = err_from_is_err_and c.from_residual.result c.from_residual.ensures.1 in
-    let a = answers_err c.args.bytes.now _ (λ k l. let f = c.type_inv.bytes k in search rules) c.in_err-_counts.ensures in
-    rw (p.1, p.2) (record { reads = a.reads; sheets = a.sheets; only = a.only; every = a.every })
+pub returns-in_err-read_counts-clause-sheets : goal.returns-in_err-read_counts-clause-sheets
+returns-in_err-read_counts-clause-sheets c = reads_the_sheets c.args.bytes.now (bytes_fit c.args.bytes.now c.type_inv.bytes)
 
-pub returns : goal.returns
-returns c =
-    let a = answers_ok c.args.bytes.now _ (λ k l. let f = c.type_inv.bytes k in search rules) c.in_ok-_counts.ensures in
-    record { reads = a.reads; sheets = a.sheets; only = a.only; every = a.every }
+pub returns-in_err-read_counts-clause-every : goal.returns-in_err-read_counts-clause-every
+returns-in_err-read_counts-clause-every c = λ e f s. absurd (sheet_counted c.args.bytes.now _ e f s c.in_err-read_counts.ensures)
+
+pub returns-clause-sheets : goal.returns-clause-sheets
+returns-clause-sheets c = reads_the_sheets c.args.bytes.now (bytes_fit c.args.bytes.now c.type_inv.bytes)
+
+pub returns-clause-only : goal.returns-clause-only
+returns-clause-only c = λ _. counted_sheet c.args.bytes.now _ (bytes_fit c.args.bytes.now c.type_inv.bytes) c.in_ok-read_counts.ensures

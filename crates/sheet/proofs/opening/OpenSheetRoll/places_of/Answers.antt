@@ -1,5 +1,4 @@
-use Rattle.std.proofs.Common.{◌<◌, sym, arith}
-use Rattle.std.proofs.lemmas.List.{get_or_past}
+use Rattle.std.proofs.Common.{◌<◌, arith}
 use Rattle.rules.specs.Meaning.{practices}
 use Rattle.sheet.specs.Opened.{opened}
 use Rattle.sheet.proofs.Sheets.{places_at}
@@ -21,9 +20,4 @@ pub returns-then-p-practices : goal.returns-then-p-practices
 returns-then-p-practices c =
     let s = c.args.self.now in
     let within : c.args.p.0 < practices (opened s.bytes.now).0 = omega (arith, c.practices.ensures) in
-    (places_at s.bytes.now s.fits c.args.p.0 within).1
-
-pub returns-else-p-practices : goal.returns-else-p-practices
-returns-else-p-practices c =
-    let s = c.args.self.now in
-    sym (get_or_past (opened s.bytes.now).0.places c.args.p.0 0 (omega (arith, c.practices.ensures)))
+    omega (arith, c.from_be_bytes.ensures, (places_at s.bytes.now s.fits c.args.p.0 within).1)

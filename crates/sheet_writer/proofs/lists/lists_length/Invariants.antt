@@ -1,7 +1,0 @@
-use Rattle.std.proofs.Common.{◌≡◌, ◌*◌, ◌≤◌, length, take}
-use Rattle.std.specs.List.{flat_map}
-use Rattle.sheet.specs.Format.{measured}
-use Rattle.sheet_writer.proofs.lists.lists_length.Given as goal
-
-abbrev pub invariant-loop-t : goal.invariant-loop-t
-invariant-loop-t g l = (l.total ≡ length (flat_map measured (take l.t (g.R.Roll.entries l.roll).lists))) × (l.total ≤ 13 * l.t)

@@ -1,6 +1,0 @@
-use Rattle.std.proofs.Common.{◌≡◌, drop}
-use Rattle.sheet_writer.specs.Writing.{filed_refusal}
-use Rattle.sheet_writer.proofs.refusal.filed_refusal.Given as goal
-
-abbrev pub invariant-loop-t : goal.invariant-loop-t
-invariant-loop-t l = filed_refusal l.practices l.t (drop l.t l.filing) ≡ filed_refusal l.practices 0 l.filing
