@@ -1,21 +1,13 @@
 // Reads a sheet from standard input and prints the strongest rival of its filed placement.
 #![tactic(auto)]
 
-use anyhow::anyhow;
-use report::challenge::challenge_text;
+use report::challenge::challenge_of;
 use std::io::Read;
 
-fn run(rt: &HostRuntime) -> anyhow::Result<()> {
+// The input is read here, since there is no heap below the programs.
+fn main(rt: HostRuntime) -> anyhow::Result<()> {
     let mut sheet = Vec::new(rt.alloc());
     rt.stdin().read_to_end(&mut sheet)?;
-    let mut buffer = [0; 4096];
-    match challenge_text(sheet.as_slice(), &mut buffer) {
-        Ok(length) => rt.write_all(&buffer[0..length])?,
-        Err(_) => return Err(anyhow!("the buffer is too short")),
-    }
+    rt.write_all(challenge_of(sheet.as_slice()).as_bytes())?;
     Ok(())
-}
-
-fn main(rt: HostRuntime) -> anyhow::Result<()> {
-    run(&rt)
 }

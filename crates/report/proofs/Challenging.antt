@@ -1,18 +1,18 @@
--- From what challenge told to the text of the rival.
-use Rattle.std.proofs.Common.{◌≡◌, ℕ, ◌≤◌, List, ◌++◌, length, Some, None, Ok, Err, codes, decimal, Option, sym, refl, ap, ◌∙◌, subst, ap₂, arith}
+-- From what challenge told to the words of the rival.
+use Rattle.std.proofs.Common.{◌≡◌, ℕ, ◌≤◌, List, [], ◌++◌, length, Some, None, Ok, Err, codes, decimal, Option, sym, refl, ap, ◌∙◌, subst, ap₂, arith}
 use Rattle.std.proofs.lemmas.List.{length-append, length_push, append-nil, drop_all}
 use Rattle.rules.specs.declared.words.Refusal.{Refusal}
 use Rattle.rules.specs.Meaning.{Entries, Lawful, trainees}
 use Rattle.voting.specs.Placements.{Placement, Feasible}
-use Rattle.sheet.specs.Opened.{read_or_nobody}
 use Rattle.sheet.specs.Told.{accepted}
 use Rattle.allotment.specs.Bytes.{bytes_of, offered_by}
 use Rattle.allotment.specs.Calls.{Rival, challenge_refusal, challenge_answer, challenge_outcome}
 use Rattle.texts.specs.Text.{kept}
 use Rattle.texts.specs.Lines.{line, refusal_words, seat_lines, rival_lines}
-use Rattle.report.specs.Report.{Read, Challenged, rival_text, challenge_text}
+use Rattle.report.specs.Report.{Read, TellsRival, TellsChallenge, rival_text}
+use Rattle.report.proofs.Handing.{ok_is, not_ok, alone}
 use Rattle.report.proofs.Lined.{lines_short}
-use Rattle.report.proofs.Judging.{ok_is, not_ok, small_seats, lines_are}
+use Rattle.report.proofs.Judging.{small_seats, lines_are}
 
 rival_short : (e : Entries) → Lawful e → (k : ℕ) (N : Placement) → Feasible e N → length (decimal k) ≤ 20 → length (rival_lines (trainees e) k N) ≤ 4096
 rival_short e law k N f short =
@@ -27,53 +27,35 @@ rival_short e law k N f short =
       length-append (codes "majority ") (decimal k),
     )
 
-module _ (e : Entries) (offered : List ℕ) (start text : List ℕ) where
-  -- the text tells the strongest rival, or the refusal
-  abbrev pub Tells : Type 0
-  Tells =
-      (k : ℕ) × (N : Placement) × Rival e offered (trainees e) k N ×
-      (text ≡ kept (start ++ rival_text (challenge_refusal e offered (trainees e)) e k N)) × (length (rival_text (challenge_refusal e offered (trainees e)) e k N) ≤ 4096)
+-- challenge gave a rival
+pub rival_told :
+    (e : Entries) (offered : List ℕ) → Lawful e → (k : ℕ) (N : Placement) (before after : List ℕ) (m : ℕ) → length before ≡ trainees e → Rival e offered (length before) k N →
+    challenge_outcome e offered before k N ≡ (Ok m, after) → length (decimal m) ≤ 20 → (start text : List ℕ) → start ≡ [] →
+    text ≡ kept (start ++ (line (codes "majority " ++ decimal m) ++ seat_lines (length after) (offered_by after))) → TellsRival e offered text
+rival_told e offered law k N before after m l rival h short start text s p = go (challenge_refusal e offered (trainees e)) refl
+  where
+    at : challenge_refusal e offered (length before) ≡ challenge_refusal e offered (trainees e)
+    at = ap (challenge_refusal e offered) l
 
-  -- challenge gave a rival
-  pub rival_told :
-      Lawful e → (k : ℕ) (N : Placement) (before after : List ℕ) (m : ℕ) → length before ≡ trainees e → Rival e offered (length before) k N →
-      challenge_outcome e offered before k N ≡ (Ok m, after) → length (decimal m) ≤ 20 →
-      text ≡ kept (start ++ (line (codes "majority " ++ decimal m) ++ seat_lines (length after) (offered_by after))) → Tells
-  rival_told law k N before after m l rival h short p = go (challenge_refusal e offered (trainees e)) refl
-    where
-      at : challenge_refusal e offered (length before) ≡ challenge_refusal e offered (trainees e)
-      at = ap (challenge_refusal e offered) l
+    go : (r : Option Refusal) → challenge_refusal e offered (trainees e) ≡ r → TellsRival e offered text
+    go (Some r) q = absurd (not_ok m r (ap (λ x. x.0) (sym (ap (λ z. challenge_answer z e before k N) (at ∙ q)) ∙ h)))
+    go None q =
+        let gave = sym (ap (λ z. challenge_answer z e before k N) (at ∙ q)) ∙ h in
+        let strong = rival (at ∙ q) in
+        let count : m ≡ k = sym (ok_is k m (ap (λ x. x.0) gave)) in
+        let is : after ≡ bytes_of (trainees e) N =
+        sym (ap (λ x. x.1) gave) ∙ ap (λ z. bytes_of (trainees e) N ++ z) (drop_all (trainees e) before (omega (arith, l))) ∙ append-nil (bytes_of (trainees e) N)
+        in
+        let same = lines_are (trainees e) N after (small_seats e law N strong.feasible) is in
+        let words = ap₂ (λ a b. line (codes "majority " ++ decimal a) ++ b) count same.1 in (
+          k,
+          N,
+          λ z. strong,
+          alone start (rival_lines (trainees e) k N) text s (p ∙ ap (λ x. kept (start ++ x)) words) (rival_short e law k N strong.feasible (let P : ℕ → Type 0 = λ z. length (decimal z) ≤ 20 in subst P count short)) ∙
+              ap (λ z. rival_text z e k N) (sym q),
+        )
 
-      go : (r : Option Refusal) → challenge_refusal e offered (trainees e) ≡ r → Tells
-      go (Some r) q = absurd (not_ok m r (ap (λ x. x.0) (sym (ap (λ z. challenge_answer z e before k N) (at ∙ q)) ∙ h)))
-      go None q =
-          let gave = sym (ap (λ z. challenge_answer z e before k N) (at ∙ q)) ∙ h in
-          let strong = rival (at ∙ q) in
-          let count : k ≡ m = ok_is k m (ap (λ x. x.0) gave) in
-          let is : after ≡ bytes_of (trainees e) N =
-          sym (ap (λ x. x.1) gave) ∙ ap (λ z. bytes_of (trainees e) N ++ z) (drop_all (trainees e) before (omega (arith, l))) ∙ append-nil (bytes_of (trainees e) N)
-          in
-          let same = lines_are (trainees e) N after (small_seats e law N strong.feasible) is in (
-            k,
-            N,
-            λ z. strong,
-            p ∙ ap (λ x. kept (start ++ x)) (
-                ap₂ (λ a b. line (codes "majority " ++ decimal a) ++ b) (sym count) same.1 ∙ sym (ap (λ z. rival_text z e k N) q)
-                ),
-            subst (λ z. length (rival_text z e k N) ≤ 4096) (sym q) (rival_short e law k N strong.feasible (subst (λ z. length (decimal z) ≤ 20) (sym count) short)),
-          )
-
--- a sheet that is accepted, and one that is not
-pub challenged_accepted :
-    (rd : Read) → Ok tt ≡ accepted rd → (start text : List ℕ) → Tells (read_or_nobody rd).0 (read_or_nobody rd).1 start text →
-    (k : ℕ) × (N : Placement) × Challenged rd k N × (text ≡ kept (start ++ challenge_text rd k N)) × (length (challenge_text rd k N) ≤ 4096)
-challenged_accepted (Ok x) h start text told = told
-challenged_accepted (Err r) h start text told = absurd (not_ok tt r (sym h))
-
-pub challenged_refused :
-    (rd : Read) (r : Refusal) → Err r ≡ accepted rd → (start text : List ℕ) → text ≡ kept (start ++ line (refusal_words r)) → length (line (refusal_words r)) ≤ 64 →
-    (k : ℕ) × (N : Placement) × Challenged rd k N × (text ≡ kept (start ++ challenge_text rd k N)) × (length (challenge_text rd k N) ≤ 4096)
-challenged_refused (Ok x) r h start text p l = absurd (not_ok tt r h)
-challenged_refused (Err q) r h start text p l =
-    let e : r ≡ q = cc in
-    (0, λ t. None, tt, p ∙ ap (λ z. kept (start ++ line (refusal_words z))) e, omega (arith, ap (λ z. length (line (refusal_words z))) e))
+-- the sheet was not accepted
+pub challenged_refused : (rd : Read) (r : Refusal) → Err r ≡ accepted rd → (words : List ℕ) → words ≡ line (refusal_words r) → TellsChallenge rd words
+challenged_refused (Ok x) r h words w = absurd (not_ok tt r h)
+challenged_refused (Err q) r h words w = let e : r ≡ q = cc in (0, λ t. None, tt, w ∙ ap (λ z. line (refusal_words z)) e)

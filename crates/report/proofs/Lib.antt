@@ -1,3 +1,4 @@
 pub mod Challenging
+pub mod Handing
 pub mod Judging
 pub mod Lined

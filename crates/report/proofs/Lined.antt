@@ -1,57 +1,31 @@
 -- Lines for trainees one after another, and how long a report can be.
-use Rattle.std.proofs.Common.{◌≡◌, ℕ, zero, suc, ◌+◌, ◌*◌, ◌<◌, ◌≤◌, List, [], ◌∷◌, ◌++◌, map, length, take, drop, Some, None, codes, decimal, sym, refl, ap, ◌∙◌, arith}
+use Rattle.std.proofs.Common.{◌≡◌, ℕ, zero, suc, ◌+◌, ◌*◌, ◌<◌, ◌≤◌, List, [], ◌∷◌, ◌++◌, length, get_or, take, drop, Some, None, codes, decimal, zero-add, sym, refl, ap, ◌∙◌, arith}
 use Rattle.std.specs.List.{range_with_len, flat_map}
-use Rattle.std.proofs.lemmas.List.{flat_map_more, length-append, length_push, take_at}
-use Rattle.std.proofs.lemmas.List.FromFn.{map-range_with_len_more, length-map-range_with_len, get_or-map-range_with_len}
+use Rattle.std.proofs.lemmas.List.{append_assoc, length-append, length_push, map-id, append-nil, take_at}
+use Rattle.std.proofs.lemmas.List.Concat.{length-flat_map}
+use Rattle.std.proofs.lemmas.List.Sums.{sum_by-le}
+use Rattle.std.proofs.lemmas.List.Elements.{All-from_get_or}
+use Rattle.std.proofs.lemmas.Grind.{flat_map-append}
+use Rattle.std.proofs.lemmas.List.FromFn.{map-range_with_len_more, length-range_with_len, get_or-range_with_len, length-map-range_with_len, get_or-map-range_with_len}
 use Rattle.std.proofs.lemmas.Fmt.{length-decimal-le}
 use Rattle.std.proofs.lemmas.Bool.{ne_eqb}
 use Rattle.voting.specs.Placements.{Seat, Placement}
 use Rattle.allotment.specs.Bytes.{seat_of_byte, byte_of_seat, offered_by, bytes_of, written}
 use Rattle.texts.specs.Text.{kept}
+use Rattle.texts.proofs.Keeping.{kept_kept}
 use Rattle.texts.specs.Lines.{line, seat_word, seat_words, seat_lines}
-use Rattle.texts.proofs.Keeping.{then}
 
 -- one line more
 pub lines_more : (n : ℕ) (M : Placement) → seat_lines (n + 1) M ≡ seat_lines n M ++ line (seat_words n (M n))
 lines_more n M =
-    ap (flat_map shown) (sym (mapped (range_with_len 0 (n + 1))) ∙ map-range_with_len_more (λ t. t) 0 n n (omega arith) ∙ ap (λ xs. xs ++ n ∷ []) (mapped (range_with_len 0 n))) ∙ sym (flat_map_more shown [] (range_with_len 0 n) n)
-  where
-    shown : ℕ → List ℕ
-    shown t = line (seat_words t (M t))
+    let e : range_with_len 0 (n + 1) ≡ range_with_len 0 n ++ n ∷ [] =
+    sym (map-id (range_with_len 0 (n + 1))) ∙ map-range_with_len_more (λ t. t) 0 n n (omega arith) ∙ ap (λ xs. xs ++ n ∷ []) (map-id (range_with_len 0 n))
+    in
+    rw e (simp (flat_map-append, append-nil))
 
-    mapped : (xs : List ℕ) → map (λ t. t) xs ≡ xs
-    mapped [] = refl
-    mapped (x ∷ xs) = ap (λ ys. x ∷ ys) (mapped xs)
-
-pub line_more :
-    (start now' next : List ℕ) (t : ℕ) (M : Placement) → now' ≡ kept (start ++ seat_lines t M) → next ≡ kept (now' ++ line (seat_words t (M t))) →
-    next ≡ kept (start ++ seat_lines (t + 1) M)
-line_more start now' next t M h k =
-    then start (seat_lines t M) (line (seat_words t (M t))) now' next h k ∙ ap (λ x. kept (start ++ x)) (sym (lines_more t M))
-
-pub placement_put :
-    (s a b c d e f : List ℕ) (k n : ℕ) (M : Placement) →
-    a ≡ kept (s ++ codes "placed ") → b ≡ kept (a ++ decimal k) → c ≡ kept (b ++ codes " of ") → d ≡ kept (c ++ decimal n) → e ≡ kept (d ++ 10 ∷ []) → f ≡ kept (e ++ seat_lines n M) →
-    f ≡ kept (s ++ (line (codes "placed " ++ decimal k ++ codes " of " ++ decimal n) ++ seat_lines n M))
-placement_put s a b c d e f k n M h1 h2 h3 h4 h5 h6 =
-    let w1 = codes "placed " in
-    let w2 = w1 ++ decimal k in
-    let w3 = w2 ++ codes " of " in
-    let w4 = w3 ++ decimal n in
-    let k2 = then s w1 (decimal k) a b h1 h2 in
-    let k3 = then s w2 (codes " of ") b c k2 h3 in
-    let k4 = then s w3 (decimal n) c d k3 h4 in
-    let k5 = then s w4 (10 ∷ []) d e k4 h5 in
-    then s (line w4) (seat_lines n M) e f k5 h6
-
-pub rival_put :
-    (s a b c d : List ℕ) (k n : ℕ) (M : Placement) →
-    a ≡ kept (s ++ codes "majority ") → b ≡ kept (a ++ decimal k) → c ≡ kept (b ++ 10 ∷ []) → d ≡ kept (c ++ seat_lines n M) →
-    d ≡ kept (s ++ (line (codes "majority " ++ decimal k) ++ seat_lines n M))
-rival_put s a b c d k n M h1 h2 h3 h4 =
-    let k2 = then s (codes "majority ") (decimal k) a b h1 h2 in
-    let k3 = then s (codes "majority " ++ decimal k) (10 ∷ []) b c k2 h3 in
-    then s (line (codes "majority " ++ decimal k)) (seat_lines n M) c d k3 h4
+-- a line, and the lines behind it
+pub headed : (start words lines now' next : List ℕ) → now' ≡ kept (start ++ words) → next ≡ kept (now' ++ 10 ∷ lines) → next ≡ kept (start ++ (line words ++ lines))
+headed start words lines now' next h k = simp (k, h, kept_kept, append_assoc)
 
 -- lines of placements that give the first n trainees the same seats
 pub lines_alike : (n : ℕ) (M N : Placement) → ((t : ℕ) → t < n → M t ≡ N t) → seat_lines n M ≡ seat_lines n N
@@ -96,14 +70,15 @@ line_short t s l h =
     )
 
 pub lines_short : (n : ℕ) (M : Placement) → n ≤ 400 → ((t : ℕ) → t < n → Small (M t)) → length (seat_lines n M) ≤ 8 * n
-lines_short n M l h = go 0 n (omega arith) (λ t i. h t (omega arith))
+lines_short n M l h =
+    omega (
+      arith,
+      length-flat_map (λ t. line (seat_words t (M t))) (range_with_len 0 n),
+      length-range_with_len 0 n,
+      sum_by-le (λ t. length (line (seat_words t (M t)))) 8 (range_with_len 0 n) (All-from_get_or (λ t. length (line (seat_words t (M t))) ≤ 8) (range_with_len 0 n) 0 each),
+    )
   where
-    go : (a m : ℕ) → a + m ≤ 400 → ((t : ℕ) → t < a + m → Small (M t)) → length (flat_map (λ t. line (seat_words t (M t))) (range_with_len a m)) ≤ 8 * m
-    go a zero k g = omega arith
-    go a (suc m) k g =
-        omega (
-          arith,
-          length-append (line (seat_words a (M a))) (flat_map (λ t. line (seat_words t (M t))) (range_with_len (a + 1) m)),
-          line_short a (M a) (omega arith) (g a (omega arith)),
-          go (a + 1) m (omega arith) (λ t i. g t (omega arith)),
-        )
+    each : (i : ℕ) → i < length (range_with_len 0 n) → length (line (seat_words (get_or (range_with_len 0 n) i 0) (M (get_or (range_with_len 0 n) i 0)))) ≤ 8
+    each i k =
+        let j : i < n = omega (arith, k, length-range_with_len 0 n) in
+        rw (get_or-range_with_len 0 n i 0 j, zero-add) (line_short i (M i) (omega arith) (h i j))

@@ -1,5 +1,5 @@
 -- What the reports say, and what a caller's buffer holds after one.
-use Rattle.std.specs.Prelude.{ℕ, cond, List, ◌++◌, length, drop, Some, None, Ok, Err, Option, Result, nat_le}
+use Rattle.std.specs.Prelude.{◌≡◌, ℕ, cond, List, ◌++◌, length, drop, Some, None, Ok, Err, Option, Result, nat_le}
 use Rattle.rules.specs.declared.words.Refusal.{Refusal}
 use Rattle.rules.specs.declared.words.Reason.TheVariants.{WrongLength, NoneUnbeaten}
 use Rattle.rules.specs.Words.{of_round}
@@ -7,6 +7,8 @@ use Rattle.rules.specs.Meaning.{Entries, trainees}
 use Rattle.voting.specs.Placements.{Placement}
 use Rattle.sheet.specs.Filing.{Filing}
 use Rattle.allotment.specs.Calls.{Verdict, Rival, challenge_refusal}
+use Rattle.texts.specs.declared.text.Text.{Text}
+use Rattle.texts.specs.Text.{text}
 use Rattle.texts.specs.Lines.{line, refusal_words, placement_lines, rival_lines}
 
 -- what the bytes of a sheet read as: entries and a filing, or a refusal
@@ -38,6 +40,28 @@ rival_text (Some r) e k N = line (refusal_words r)
 abbrev pub challenge_text : Read → ℕ → Placement → List ℕ
 challenge_text (Ok x) k N = rival_text (challenge_refusal x.0 x.1 (trainees x.0)) x.0 k N
 challenge_text (Err r) k N = line (refusal_words r)
+
+-- what is told of an answer: its text, or the words of the refusal
+abbrev pub answer_text : Result Text Refusal → List ℕ
+answer_text (Ok t) = text t
+answer_text (Err r) = line (refusal_words r)
+
+-- words that tell a fullest unbeaten placement, or that there is none
+abbrev pub TellsVerdict : Entries → List ℕ → Type 0
+TellsVerdict e words = (v : Option Placement) × Verdict e v × (words ≡ verdict_text e v)
+
+-- words that tell the same of what was read, or why it was refused
+abbrev pub TellsReport : Read → List ℕ → Type 0
+TellsReport rd words = (v : Option Placement) × Judged rd v × (words ≡ report_text rd v)
+
+-- words that tell the strongest rival of what is offered, or why it cannot be challenged
+abbrev pub TellsRival : Entries → List ℕ → List ℕ → Type 0
+TellsRival e offered words =
+    (k : ℕ) × (N : Placement) × Rival e offered (trainees e) k N × (words ≡ rival_text (challenge_refusal e offered (trainees e)) e k N)
+
+-- words that tell the same of what was read, or why it was refused
+abbrev pub TellsChallenge : Read → List ℕ → Type 0
+TellsChallenge rd words = (k : ℕ) × (N : Placement) × Challenged rd k N × (words ≡ challenge_text rd k N)
 
 -- the answer of a report of this text, and its buffer then: at least 4,096 bytes are wanted, and later bytes stay
 abbrev pub text_outcome : List ℕ → List ℕ → Result ℕ Refusal × List ℕ

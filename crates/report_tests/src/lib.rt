@@ -3,65 +3,50 @@
 
 #[cfg(test)]
 mod tests {
-    use report::challenge::challenge_text;
-    use report::report::report;
+    use report::challenge::{challenge_of, challenge_text};
+    use report::report::{report, report_of};
+    use rules::words::Refusal;
 
-    // Whether a report wrote just this text, and left the bytes behind it.
-    fn wrote(length: usize, buffer: &[u8], text: &[u8]) -> bool {
-        let mut same = length == text.len();
-        for (i, byte) in buffer.iter().enumerate() {
-            let expected = match text.get(i) {
-                Some(b) => *b,
-                None => 7,
-            };
-            same = same && *byte == expected;
-        }
-        same
-    }
-
-    fn reports(sheet: &[u8], text: &[u8]) -> bool {
+    // Whether a call writes just this text into the buffer's front, and leaves the bytes behind it.
+    fn writes<F: FnOnce(&[u8], &mut [u8]) -> Result<usize, Refusal>>(
+        call: F,
+        sheet: &[u8],
+        text: &[u8],
+    ) -> bool
+        requires { F.IsAlwaysCallable call }
+    {
         let mut buffer = [7; 4200];
-        match report(sheet, &mut buffer) {
-            Ok(length) => wrote(length, &buffer, text),
-            Err(_) => false,
-        }
-    }
-
-    fn challenges(sheet: &[u8], text: &[u8]) -> bool {
-        let mut buffer = [7; 4200];
-        match challenge_text(sheet, &mut buffer) {
-            Ok(length) => wrote(length, &buffer, text),
-            Err(_) => false,
-        }
+        call(sheet, &mut buffer) == Ok(text.len())
+            && buffer.starts_with(text)
+            && buffer.iter().skip(text.len()).all(|byte| *byte == 7)
     }
 
     // Whether the report begins so, where which placement it gives is free.
     fn begins(sheet: &[u8], text: &[u8]) -> bool {
         let mut buffer = [7; 4096];
-        let mut same = report(sheet, &mut buffer).is_ok();
-        for (byte, expected) in buffer.iter().zip(text.iter()) {
-            same = same && *byte == *expected;
-        }
-        same
+        report(sheet, &mut buffer).is_ok() && buffer.starts_with(text)
     }
 
     #[test]
     fn worked_rounds(rt: HostRuntime) {
-        assert!(rt; reports(b"\x00\x00\x00\x00\x00\x00", b"placed 0 of 0\n"));
+        assert!(rt; writes(report, b"\x00\x00\x00\x00\x00\x00", b"placed 0 of 0\n"));
         assert!(rt;
-            reports(
+            writes(
+                report,
                 b"\x00\x01\x00\x01\x00\x01\x00\x00\x00",
                 b"placed 0 of 1\n0 -\n",
             )
         );
         assert!(rt;
-            reports(
+            writes(
+                report,
                 b"\x00\x02\x00\x01\x00\x01\x00\x03\x02\x00\x01\x01\x00\x00\x00\x00",
                 b"placed 2 of 3\n0 1\n1 0\n2 -\n",
             )
         );
         assert!(rt;
-            reports(
+            writes(
+                report,
                 b"\x00\x02\x00\x01\x00\x01\x00\x03\x02\x00\x01\x02\x00\x01\x02\x00\x01\x00\x00",
                 b"refused 10 round 0\n",
             )
@@ -73,7 +58,8 @@ mod tests {
             )
         );
         assert!(rt;
-            reports(
+            writes(
+                report,
                 b"\x00\x02\x00\x02\x00\x01\x00\x03\x01\x00\x02\x01\x00\x01\x01\x00\x00",
                 b"placed 3 of 3\n0 0\n1 0\n2 1\n",
             )
@@ -88,13 +74,26 @@ mod tests {
 
     #[test]
     fn refused_sheets(rt: HostRuntime) {
-        assert!(rt; reports(b"", b"refused 1 sheet 0\n"));
-        assert!(rt; reports(b"\x00\x00\x00\x00\x00\x00\x09", b"refused 2 sheet 6\n"));
-        assert!(rt; reports(b"\x00\x65", b"refused 3 sheet 0\n"));
-        assert!(rt; reports(b"\x00\x01\x01\x91", b"refused 4 sheet 2\n"));
-        assert!(rt; reports(b"\x00\x01\x00\x01\x00\x01\x01\x01", b"refused 5 sheet 7\n"));
+        assert!(rt; writes(report, b"", b"refused 1 sheet 0\n"));
         assert!(rt;
-            reports(
+            writes(
+                report,
+                b"\x00\x00\x00\x00\x00\x00\x09",
+                b"refused 2 sheet 6\n"
+            )
+        );
+        assert!(rt; writes(report, b"\x00\x65", b"refused 3 sheet 0\n"));
+        assert!(rt; writes(report, b"\x00\x01\x01\x91", b"refused 4 sheet 2\n"));
+        assert!(rt;
+            writes(
+                report,
+                b"\x00\x01\x00\x01\x00\x01\x01\x01",
+                b"refused 5 sheet 7\n"
+            )
+        );
+        assert!(rt;
+            writes(
+                report,
                 b"\x00\x01\x00\x01\x00\x01\x02\x00\x00",
                 b"refused 6 sheet 8\n",
             )
@@ -106,26 +105,37 @@ mod tests {
 
     #[test]
     fn rivals(rt: HostRuntime) {
-        assert!(rt; challenges(b"\x00\x00\x00\x00\x00\x00", b"majority 0\n"));
+        assert!(rt; writes(challenge_text, b"\x00\x00\x00\x00\x00\x00", b"majority 0\n"));
         assert!(rt;
-            challenges(
+            writes(
+                challenge_text,
                 b"\x00\x01\x00\x01\x00\x01\x01\x00\x00\x00",
                 b"refused 9 round 1\n",
             )
         );
         assert!(rt;
-            challenges(
+            writes(
+                challenge_text,
                 b"\x00\x01\x00\x01\x00\x02\x01\x00\x01\x00\x00\x02\x00\x00",
                 b"refused 12 round 1\n",
             )
         );
         assert!(rt;
-            challenges(
+            writes(
+                challenge_text,
                 b"\x00\x01\x00\x01\x00\x01\x01\x00\x00\x01\xff",
                 b"majority 1\n0 0\n",
             )
         );
         let mut short = [7; 4095];
         assert!(rt; challenge_text(b"", &mut short).is_err());
+    }
+
+    #[test]
+    fn texts(rt: HostRuntime) {
+        assert!(rt; report_of(b"\x00\x65").as_bytes() == b"refused 3 sheet 0\n".as_slice());
+        assert!(rt;
+            challenge_of(b"\x00\x00\x00\x00\x00\x00").as_bytes() == b"majority 0\n".as_slice()
+        );
     }
 }

@@ -3,32 +3,31 @@ ghost use Rattle.std.specs.Prelude.{◌≡◌, ◌≤◌, [], ◌∷◌, ◌++�
 ghost use Rattle.texts.specs.Text.{text, kept};
 
 use crate::text::Text;
+use arrayvec::ArrayVec;
+use itoa::Buffer;
 
 impl Text {
     pub fn new() -> Text
         ensures { text result ≡ [] }
     {
         Text {
-            bytes: [0; 4096],
-            len: 0,
+            bytes: ArrayVec::new(),
         }
     }
 
     pub fn push(&mut self, byte: u8)
         ensures { text self.new ≡ kept (text self.old ++ byte ∷ []) }
     {
-        if self.len < 4096 {
-            self.bytes[self.len] = byte;
-            self.len += 1;
-        }
+        self.put(&[byte]);
     }
 
+    // As many bytes as fit.
+    #[tactic(auto, using(crate::proofs::Keeping::filled))]
     pub fn put(&mut self, piece: &[u8])
         ensures { text self.new ≡ kept (text self.old ++ piece.now) }
     {
-        for byte in piece {
-            self.push(*byte);
-        }
+        let room = self.bytes.remaining_capacity().min(piece.len());
+        self.bytes.try_extend_from_slice(&piece[..room]).unwrap();
     }
 
     // The number in decimal.
@@ -36,15 +35,13 @@ impl Text {
         ensures after { text self.new ≡ kept (text self.old ++ decimal n) }
         ensures short { length (decimal n) ≤ 20 }
     {
-        if n >= 10 {
-            self.put_number(n / 10);
-        }
-        self.push(48 + (n % 10) as u8);
+        self.put(Buffer::new().format(n).as_bytes());
     }
 
     pub fn as_bytes(&self) -> &[u8]
-        ensures { result.now ≡ text self.now }
+        ensures bytes { result.now ≡ text self.now }
+        ensures within { length result.now ≤ 4096 }
     {
-        &self.bytes[0..self.len]
+        self.bytes.as_slice()
     }
 }
