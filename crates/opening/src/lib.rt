@@ -1,4 +1,5 @@
-// How a register over lent memory is opened.
+// How a register over lent memory is opened, and what it keeps itself.
 #![tactic(auto)]
 
+pub mod numbers;
 pub mod room;

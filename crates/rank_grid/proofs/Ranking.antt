@@ -1,12 +1,13 @@
 -- Ranks, and the list that they are the ranks of.
-use Rattle.std.proofs.Common.{◌≡◌, ℕ, zero, suc, ◌+◌, ◌<◌, ◌≤◌, max, true, false, cond, eqb, ◌⊎◌, List, [], ◌∷◌, ◌++◌, length, get_or, take, set, sym, refl, ap, ◌∙◌, inl, inr, add-one, arith}
-use Rattle.std.proofs.lemmas.List.FromFn.{fill_by_all}
-use Rattle.std.proofs.lemmas.List.{take_more, get_or-take, length-take-le, get_or-set_same, get_or-set_other}
-use Rattle.std.proofs.lemmas.Bool.{eq-eqb, ne_eqb, cases_eq, cases_Bool}
+use Rattle.std.proofs.Common.{◌≡◌, ℕ, zero, suc, ◌+◌, ◌<◌, ◌≤◌, max, true, false, cond, eqb, fold, option_map, unwrap_or, ◌⊎◌, List, [], ◌∷◌, ◌++◌, length, get_or, take, set, sym, refl, ap, ◌∙◌, inl, inr, arith}
+use Rattle.std.specs.List.{reduce}
+use Rattle.std.proofs.lemmas.List.FromFn.{fill_by_all, length-map-range_with_len, get_or-map-range_with_len}
+use Rattle.std.proofs.lemmas.List.{take_more, get_or_past, get_or-take, length-take-le, get_or-set_same, get_or-set_other}
+use Rattle.std.proofs.lemmas.Bool.{eq-eqb, ne_eqb, lt-ltb, le-ltb, cases_eq, cases_lt, cases_Bool}
 use Rattle.rules.specs.Meaning.{Strict}
-use Rattle.rules.specs.Questions.{listed, position}
-use Rattle.rules.proofs.Positions.{Distinct, position_own, listed_own, listed_at, unlisted, position_push, position_push_other, listed_push, listed_push_other}
-use Rattle.rank_grid.specs.Ranks.{rank}
+use Rattle.rules.specs.Questions.{listed, position, choice_in, position_in}
+use Rattle.rules.proofs.Positions.{Distinct, position_is, position_own, listed_own, listed_at, unlisted, position_push, position_push_other, listed_push, listed_push_other}
+use Rattle.rank_grid.specs.Ranks.{rank, ranks}
 use Rattle.rank_grid.specs.Reading.{greatest, where_is, list_in}
 
 pub rank_listed : (xs : List ℕ) (p : ℕ) → listed xs p ≡ true → rank xs p ≡ position xs p + 1
@@ -60,9 +61,6 @@ pub greatest_below : (n : ℕ) (f : ℕ → ℕ) (m : ℕ) → ((p : ℕ) → p 
 greatest_below zero f m h = omega arith
 greatest_below (suc n) f m h = let a = greatest_below n f m (λ p l. h p (omega arith)) in let b = h n (omega arith) in omega arith
 
-pub greatest_more : (n : ℕ) (f : ℕ → ℕ) (m v : ℕ) → m ≡ greatest n f → v ≡ max m (f n) → v ≡ greatest (n + 1) f
-greatest_more n f m v e h = rw add-one (h ∙ ap (λ k. max k (f n)) e)
-
 pub where_found : (n : ℕ) (f : ℕ → ℕ) (v p : ℕ) → p < n → f p ≡ v → (where_is n f v < n) × (f (where_is n f v) ≡ v)
 where_found zero f v p l h = absurd (omega arith)
 where_found (suc n) f v p l h = by (λ m. where_found n f v p m h) (cases_eq (f n) v)
@@ -109,3 +107,66 @@ rank_write run xs i s l h p m = by (cases_eq p (get_or xs i 0))
     by : (p ≡ get_or xs i 0) ⊎ (p ≡ get_or xs i 0 → ⊥) → get_or (set run (get_or xs i 0) (i + 1)) p 0 ≡ rank (take (i + 1) xs) p
     by (inl e) = rw (e, get_or-set_same run (get_or xs i 0) (i + 1) 0 (s.below i l), take_more xs i 0 l, rank_push_same (take i xs) (get_or xs i 0) fresh, front)
     by (inr e) = rw (get_or-set_other run (get_or xs i 0) p (i + 1) 0 e, take_more xs i 0 l, rank_push_other (take i xs) (get_or xs i 0) p (λ q. e (sym q))) (h p m)
+
+-- the cells of a run, and none past it
+module _ (n : ℕ) (xs : List ℕ) where
+  pub length_ranks : length (ranks n xs) ≡ n
+  length_ranks = length-map-range_with_len (rank xs) 0 n
+
+  pub ranks_below : (p : ℕ) → p < n → get_or (ranks n xs) p 0 ≡ rank xs p
+  ranks_below p l = get_or-map-range_with_len (rank xs) 0 n p p 0 l (omega arith)
+
+-- the greatest number of a list
+fold_above : (xs : List ℕ) (a : ℕ) → a ≤ fold max a xs
+fold_above [] a = omega arith
+fold_above (x ∷ xs) a = omega (arith, fold_above xs (max a x))
+
+fold_each : (xs : List ℕ) (a k : ℕ) → k < length xs → get_or xs k 0 ≤ fold max a xs
+fold_each [] a k l = absurd (omega arith)
+fold_each (x ∷ xs) a zero l = omega (arith, fold_above xs (max a x))
+fold_each (x ∷ xs) a (suc k) l = fold_each xs (max a x) k (omega arith)
+
+fold_below : (xs : List ℕ) (a m : ℕ) → a ≤ m → ((k : ℕ) → k < length xs → get_or xs k 0 ≤ m) → fold max a xs ≤ m
+fold_below [] a m l h = l
+fold_below (x ∷ xs) a m l h = fold_below xs (max a x) m (omega (arith, h 0 (omega arith))) (λ k b. h (suc k) (omega arith))
+
+greatest_fold : (xs : List ℕ) → unwrap_or (reduce max xs) 0 ≡ fold max 0 xs
+greatest_fold [] = refl
+greatest_fold (x ∷ xs) = let e : x ≡ max 0 x = omega arith in ap (λ a. fold max a xs) e
+
+-- the run of a strict list
+module _ (n : ℕ) (xs : List ℕ) (s : Strict n xs) where
+  pub ranks_at : (p : ℕ) → get_or (ranks n xs) p 0 ≡ rank xs p
+  ranks_at p = by (cases_lt p n)
+    where
+      by : (p < n) ⊎ (n ≤ p) → get_or (ranks n xs) p 0 ≡ rank xs p
+      by (inl l) = ranks_below n xs p l
+      by (inr l) = get_or_past (ranks n xs) p 0 (omega (arith, length_ranks n xs)) ∙ sym (rank_unlisted xs p (unlisted xs p (λ k b e. omega (arith, s.below k b))))
+
+  -- its greatest cell is the length of the list
+  pub ranks_greatest : unwrap_or (reduce max (ranks n xs)) 0 ≡ length xs
+  ranks_greatest = greatest_fold (ranks n xs) ∙ by (length xs) refl
+    where
+      low : fold max 0 (ranks n xs) ≤ length xs
+      low = fold_below (ranks n xs) 0 (length xs) (omega arith) (λ p l. rw (ranks_at p) (rank_most xs p))
+
+      by : (m : ℕ) → length xs ≡ m → fold max 0 (ranks n xs) ≡ length xs
+      by zero e = omega (arith, low)
+      by (suc m) e =
+          let b = s.below m (omega arith) in
+          omega (arith, low, fold_each (ranks n xs) 0 (get_or xs m 0) (omega (arith, length_ranks n xs)), ranks_at (get_or xs m 0), rank_own xs s.distinct m (omega arith))
+
+  -- the practice with the rank k + 1 is the choice k
+  pub ranks_choice : (k : ℕ) → option_map (λ p. record { 0 = p }) (position_in (ranks n xs) (k + 1)) ≡ choice_in xs k
+  ranks_choice k = by (cases_lt k (length xs))
+    where
+      by : (k < length xs) ⊎ (length xs ≤ k) → option_map (λ p. record { 0 = p }) (position_in (ranks n xs) (k + 1)) ≡ choice_in xs k
+      by (inl l) =
+          let p = get_or xs k 0 in
+          let b : p < length (ranks n xs) = omega (arith, s.below k l, length_ranks n xs) in
+          let e : position (ranks n xs) (k + 1) ≡ p =
+          position_is (ranks n xs) (k + 1) p b (ranks_at p ∙ rank_own xs s.distinct k l)
+          (λ j m r. omega (arith, (rank_at xs j k (sym (ranks_at j) ∙ r)).1)) in
+          rw (e, lt-ltb p (length (ranks n xs)) b, lt-ltb k (length xs) l)
+      by (inr l) =
+          rw (unlisted (ranks n xs) (k + 1) (λ p b e. omega (arith, ranks_at p, rank_most xs p)), le-ltb k (length xs) l)

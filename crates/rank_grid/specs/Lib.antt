@@ -1,4 +1,3 @@
 pub mod Ranks
 pub mod Reading
-pub mod Kept
 pub mod Grid

@@ -1,7 +1,7 @@
 -- The entries that cells hold, read off them.
-use Rattle.std.specs.Prelude.{◌≡◌, ℕ, zero, suc, ◌+◌, ◌*◌, ◌<◌, max, cond, List, [], ◌++◌, map, take, drop, ◌==◌, slice_index, slice_index_or}
+use Rattle.std.specs.Prelude.{◌≡◌, ℕ, zero, suc, ◌+◌, ◌*◌, ◌<◌, max, cond, List, [], ◌++◌, map, length, take, drop, ◌==◌, slice_index, slice_index_or}
 use Rattle.std.specs.List.{range_with_len}
-use Rattle.rules.specs.Meaning.{Entries, Lawful}
+use Rattle.rules.specs.Meaning.{Entries}
 use Rattle.rank_grid.specs.Ranks.{rank, ranks}
 
 -- the cell of a trainee and a practice
@@ -25,17 +25,12 @@ list_in practices run = map (λ k. where_is practices run (k + 1)) (range_with_l
 abbrev pub lists_of : List ℕ → ℕ → ℕ → List (List ℕ)
 lists_of cells trainees practices = map (λ t. list_in practices (cell cells practices t)) (range_with_len 0 trainees)
 
-abbrev pub entries_of : List ℕ → ℕ → ℕ → List ℕ → Entries
-entries_of cells trainees practices places = record { places = take practices places; lists = lists_of cells trainees practices }
+abbrev pub entries_of : List ℕ → ℕ → List ℕ → Entries
+entries_of cells trainees places = record { places = places; lists = lists_of cells trainees (length places) }
 
 -- each cell is the rank of its practice on its trainee's list
 abbrev pub Shows : List ℕ → ℕ → ℕ → List (List ℕ) → Type 0
 Shows cells trainees practices lists = (t : ℕ) → t < trainees → (p : ℕ) → p < practices → cell cells practices t p ≡ rank (slice_index_or lists t []) p
-
--- what a rank grid keeps
-pub record Ranked (cells : List ℕ) (trainees practices : ℕ) (places : List ℕ) : Type 0 where
-  pub shows : Shows cells trainees practices (lists_of cells trainees practices)
-  pub law : Lawful (entries_of cells trainees practices places)
 
 -- the cells with another list for t: its run is the ranks, and every other cell is as it was
 abbrev pub written : List ℕ → ℕ → ℕ → List ℕ → List ℕ

@@ -3,14 +3,15 @@ use Rattle.std.proofs.Common.{◌≡◌, ℕ, List, Result, sym, refl, ap, ◌�
 use Rattle.rules.specs.declared.words.Refusal.{Refusal}
 use Rattle.rules.specs.Meaning.{Entries, Meaning, with_list}
 use Rattle.rules.specs.Refusals.{entry_refusal, enter_outcome, outcome}
+use Rattle.register_tests.specs.After.{after}
 use Rattle.rules.proofs.Outcomes.{outcome_through}
 
 -- a call that leaves memory as its entries say, over memory that the opening left as its own say
-pub left : {X : Type 0} (holding : Entries → List X → List X) (m n x : Meaning) (memory opened after : List X) (t : ℕ) (list : List ℕ) (r : Result (Unit {0}) Refusal)
+pub left : {X : Type 0} (holding : Entries → List X → List X) (m n x : Meaning) (memory opened then : List X) (t : ℕ) (list : List ℕ) (r : Result (Unit {0}) Refusal)
     → (((e f : Entries) → f ≡ e → holding f (holding e memory) ≡ holding f memory) × (holding (with_list n t list).entries (holding n.entries memory) ≡ holding (with_list n t list).entries memory))
-    → m ≡ n → opened ≡ holding m.entries memory → enter_outcome m t list ≡ (r, x) → after ≡ holding x.entries opened
-    → outcome (entry_refusal n t list) (holding n.entries memory) (holding (with_list n t list).entries memory) ≡ (r, after)
-left {X} holding m n x memory opened after t list r again same first enters last =
+    → m ≡ n → opened ≡ holding m.entries memory → enter_outcome m t list ≡ (r, x) → then ≡ holding x.entries opened
+    → after holding n memory t list ≡ (r, then)
+left {X} holding m n x memory opened then t list r again same first enters last =
     let e : opened ≡ holding n.entries memory = first ∙ ap (λ (y : Meaning). holding y.entries memory) same in
     let h : enter_outcome n t list ≡ (r, x) = ap (λ (y : Meaning). enter_outcome y t list) (sym same) ∙ enters in
     ap (λ (y : List X). outcome (entry_refusal n t list) y (holding (with_list n t list).entries memory)) (sym (again.0 n.entries n.entries refl))

@@ -1,7 +1,10 @@
-// What the caller's memory holds once a register over it is gone.
-ghost use Rattle.std.specs.Prelude.{◌≡◌, length};
+// What the caller's memory holds once a register over it is gone. One function for each register, since only a register's own
+// clauses `cells` and `rows` speak of the memory, and no trait does.
+ghost use Rattle.std.specs.Prelude.{◌≡◌, ◌*◌, length};
 ghost use Rattle.rules.specs.Questions.{numbers};
-ghost use Rattle.register_tests.specs.After.{grid_opened, cells_after, rows_opened, rows_after};
+ghost use Rattle.rank_grid.specs.Ranks as in_cells;
+ghost use Rattle.row_register.specs.Rows as in_rows;
+ghost use Rattle.register_tests.specs.After.{just_opened, after};
 
 use rank_grid::grid::RankGrid;
 use row_register::row::Row;
@@ -17,11 +20,10 @@ pub fn enter_in_cells(
     t: Trainee,
     list: &[Practice],
 ) -> Result<(), Refusal>
-    ensures answer { result ≡ (cells_after (grid_opened practices trainees (length cells.old)) cells.old t.0 (numbers list.now)).0 }
-    ensures cells { cells.new ≡ (cells_after (grid_opened practices trainees (length cells.old)) cells.old t.0 (numbers list.now)).1 }
+    ensures answer { result ≡ (after in_cells.holding (just_opened practices trainees (trainees * practices) (length cells.old)) cells.old t.0 (numbers list.now)).0 }
+    ensures cells { cells.new ≡ (after in_cells.holding (just_opened practices trainees (trainees * practices) (length cells.old)) cells.old t.0 (numbers list.now)).1 }
 {
-    let mut grid = RankGrid::open(practices, trainees, cells);
-    grid.enter(t, list)
+    RankGrid::open(practices, trainees, cells).enter(t, list)
 }
 
 // One list entered in a row register just opened.
@@ -32,9 +34,8 @@ pub fn enter_in_rows(
     t: Trainee,
     list: &[Practice],
 ) -> Result<(), Refusal>
-    ensures answer { result ≡ (rows_after (rows_opened practices trainees (length rows.old)) rows.old t.0 (numbers list.now)).0 }
-    ensures rows { rows.new ≡ (rows_after (rows_opened practices trainees (length rows.old)) rows.old t.0 (numbers list.now)).1 }
+    ensures answer { result ≡ (after in_rows.holding (just_opened practices trainees trainees (length rows.old)) rows.old t.0 (numbers list.now)).0 }
+    ensures rows { rows.new ≡ (after in_rows.holding (just_opened practices trainees trainees (length rows.old)) rows.old t.0 (numbers list.now)).1 }
 {
-    let mut register = RowRegister::open(practices, trainees, rows);
-    register.enter(t, list)
+    RowRegister::open(practices, trainees, rows).enter(t, list)
 }

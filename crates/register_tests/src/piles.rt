@@ -13,17 +13,28 @@ use std::process::Abort;
 fn shows_three_without_2<R: Register>(rt: &impl Abort, r: &mut R) {
     let t = Trainee(1);
     assert!(rt; r.longest() == 3 && r.is_open(Practice(0)) && !r.is_open(Practice(2)));
-    assert!(rt; refused(r.enter(t, &thirteen()[0..4]), 3, 3));
+    assert!(rt; refused(r.enter(t, &thirteen()[..4]), 3, 3));
     assert!(rt; refused(r.enter(t, &[Practice(1), Practice(2)]), 5, 1));
     assert!(rt; refused(r.enter(t, &[Practice(1), Practice(1), Practice(2)]), 6, 1));
-    assert!(rt; taken(r.enter(t, &[Practice(12), Practice(3), Practice(0)])));
-    assert!(rt; r.list_length(t) == 3 && is(r.choice(t, 0), 12) && is(r.choice(t, 2), 0));
+    assert!(rt;
+        r.enter(t, &[Practice(12), Practice(3), Practice(0)])
+            .is_ok()
+    );
+    assert!(rt;
+        r.list_length(t) == 3
+            && r.choice(t, 0) == Some(Practice(12))
+            && r.choice(t, 2) == Some(Practice(0))
+    );
 }
 
 // A list of 12 that was entered below is shown as 0 1 3.
 fn shows_what_stood<R: Register>(rt: &impl Abort, r: &mut R) {
     let t = Trainee(0);
-    assert!(rt; r.list_length(t) == 3 && is(r.choice(t, 1), 1) && is(r.choice(t, 2), 3));
+    assert!(rt;
+        r.list_length(t) == 3
+            && r.choice(t, 1) == Some(Practice(1))
+            && r.choice(t, 2) == Some(Practice(3))
+    );
     assert!(rt; r.choice(t, 3) == None && r.position(t, Practice(2)) == None);
     assert!(rt; r.position(t, Practice(3)) == Some(2) && r.position(t, Practice(4)) == None);
 }
@@ -37,8 +48,8 @@ fn answers_for_three<R: Register>(rt: &impl Abort, r: &mut R) {
 
 fn closes_2<R: Register>(rt: &impl Abort, layer: &mut Closed<R>) {
     assert!(rt; refused(layer.close(Practice(13)), 8, 13));
-    assert!(rt; taken(layer.close(Practice(2))));
-    assert!(rt; taken(layer.close(Practice(2))));
+    assert!(rt; layer.close(Practice(2)).is_ok());
+    assert!(rt; layer.close(Practice(2)).is_ok());
 }
 
 // Practice 2 is closed.
@@ -49,7 +60,7 @@ fn without_2<R: Register>(below: R) -> Closed<R> {
 }
 
 fn enters_twelve<R: Register>(rt: &impl Abort, r: &mut R) {
-    assert!(rt; taken(r.enter(Trainee(0), &thirteen()[0..12])));
+    assert!(rt; r.enter(Trainee(0), &thirteen()[..12]).is_ok());
 }
 
 fn closing<R: Register>(rt: &impl Abort, below: &mut R) {
@@ -88,10 +99,7 @@ fn short_over_closed_over_grid(rt: HostRuntime) {
 
 #[test]
 fn closed_over_short_over_rows(rt: HostRuntime) {
-    let mut rows = [Row {
-        count: 0,
-        choices: [0; 12],
-    }; 2];
+    let mut rows = [Row::default(); 2];
     let mut register = RowRegister::open(13, 2, &mut rows);
     on_rows(&rt, &mut register);
 }

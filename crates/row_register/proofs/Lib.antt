@@ -1,2 +1,4 @@
+pub mod Filled
 pub mod Rowing
 pub mod Standing
+pub mod Kept

@@ -1,20 +1,16 @@
 -- The rows, and the entries that they hold.
-use Rattle.std.proofs.Common.{◌≡◌, ℕ, suc, ◌+◌, ◌-◌, ◌<◌, ◌≤◌, ◌⊎◌, List, [], ◌∷◌, ◌++◌, map, length, get_or, take, drop, set, replicate, Some, None, sym, refl, ap, ◌∙◌, inl, inr, le_refl, arith, length-append, length-drop, drop-set-lt}
+use Rattle.std.proofs.Common.{◌≡◌, ℕ, ◌-◌, ◌<◌, ◌≤◌, ◌⊎◌, List, [], ◌++◌, map, length, get_or, take, drop, set, replicate, sym, refl, ap, ◌∙◌, inl, inr, arith, length-append}
 use lib.ListN.{length-replicate, length-map}
 use lib.Seq.{take-set-lt}
 use lib.LanesLaws.{map-replicate}
-use Rattle.std.proofs.lemmas.List.{ext_get_or, get_or-map, get_or_past, get_or-take, get_or_append_left, get_or-append_right, get_or-set_same, get_or-set_other, get_or-replicate, length-take-le, take-append-drop, take-replicate, take_at, take_all, take_more, drop_at, map-set, set-append_right, append_assoc}
-use Rattle.std.proofs.lemmas.Bool.{lt-ltb, le-ltb, cases_eq, cases_lt}
-use Rattle.rules.specs.Meaning.{Entries, Strict, Lawful, trainees, with_places}
-use Rattle.rules.specs.Questions.{position, choice_in, position_in}
-use Rattle.rules.proofs.Positions.{position_is, unlisted}
-use Rattle.rules.proofs.Lawfully.{lawful_listed, lawful_placed}
-use Rattle.opening.specs.Opening.{opened, plain_rules}
-use Rattle.opening.proofs.Opened.{lawful_opened}
-use Rattle.opening.proofs.Offered.{length_offered}
+use Rattle.std.proofs.lemmas.List.{ext_get_or, get_or-map, get_or_past, get_or-take, get_or_append_left, get_or-append_right, get_or-set_same, get_or-set_other, get_or-replicate, length-take-le, take-append-drop, take_at, drop_at, map-set}
+use Rattle.std.proofs.lemmas.Bool.{cases_eq, cases_lt}
+use Rattle.rules.specs.Meaning.{Entries, Strict, Lawful, trainees}
+use Rattle.rules.proofs.Lawfully.{lawful_listed}
+use Rattle.opening.specs.Opening.{plain_rules}
 use Rattle.row_register.specs.declared.row.Row.{Row}
 use Rattle.row_register.specs.Rows.{row_of, holding}
-use Rattle.row_register.specs.Reading.{row_list, row_at, entries_of, Neat, Rowed}
+use Rattle.row_register.specs.Reading.{row_list, row_at, entries_of}
 
 zero_at : (n k : ℕ) → get_or (replicate {A = ℕ} n 0) k 0 ≡ 0
 zero_at n k = among (cases_lt k n)
@@ -22,6 +18,13 @@ zero_at n k = among (cases_lt k n)
     among : (k < n) ⊎ (n ≤ k) → get_or (replicate {A = ℕ} n 0) k 0 ≡ 0
     among (inl l) = get_or-replicate {A = ℕ} n k 0 0 l
     among (inr l) = get_or_past (replicate {A = ℕ} n 0) k 0 (omega (arith, length-replicate {A = ℕ} n 0))
+
+padded_at : (xs : List ℕ) (n k : ℕ) → get_or (xs ++ replicate n 0) k 0 ≡ get_or xs k 0
+padded_at xs n k = by (cases_lt k (length xs))
+  where
+    by : (k < length xs) ⊎ (length xs ≤ k) → get_or (xs ++ replicate n 0) k 0 ≡ get_or xs k 0
+    by (inl l) = get_or_append_left xs (replicate n 0) 0 k l
+    by (inr l) = get_or-append_right xs (replicate n 0) (length xs) k 0 refl l ∙ zero_at n (k - length xs) ∙ sym (get_or_past xs k 0 l)
 
 -- as many lists as trainees
 pub trainees_are : (rows : List Row) (T : ℕ) → T ≤ length rows → length (map row_list (take T rows)) ≡ T
@@ -32,31 +35,19 @@ list_at rows T t room l =
     get_or-map row_list (take T rows) t (record { count = 0; choices = [] }) [] (omega (arith, length-take-le T rows room))
     ∙ ap row_list (get_or-take T rows t (record { count = 0; choices = [] }) l)
 
-pub list_past : (rows : List Row) (T t : ℕ) → T ≤ length rows → T ≤ t → get_or (map row_list (take T rows)) t [] ≡ []
-list_past rows T t room l = get_or_past (map row_list (take T rows)) t [] (omega (arith, trainees_are rows T room))
+-- a row that counts no more than there is room for, with zeros past its count
+pub record Neat (r : Row) : Type 0 where
+  pub few : r.count ≤ 12
+  pub long : length r.choices ≡ 12
+  pub zeros : (k : ℕ) → r.count ≤ k → get_or r.choices k 0 ≡ 0
 
--- one neat row
+-- each of the first rows is neat
+abbrev pub AllNeat : List Row → ℕ → Type 0
+AllNeat rows T = (t : ℕ) → t < T → Neat (row_at rows t)
+
 module _ (r : Row) (h : Neat r) where
-  pub length_row : length (row_list r) ≡ r.count
+  length_row : length (row_list r) ≡ r.count
   length_row = length-take-le r.count r.choices (omega (arith, h.few, h.long))
-
-  pub choice_found : (k : ℕ) → k < r.count → Some (record { 0 = get_or r.choices k 0 }) ≡ choice_in (row_list r) k
-  choice_found k l = rw (lt-ltb k (length (row_list r)) (omega (arith, length_row)), get_or-take r.count r.choices k 0 l)
-
-  pub choice_absent : (k : ℕ) → r.count ≤ k → None ≡ choice_in (row_list r) k
-  choice_absent k l = rw (le-ltb k (length (row_list r)) (omega (arith, length_row)))
-
-  pub position_found : (p k : ℕ) → k < r.count → get_or r.choices k 0 ≡ p → ((j : ℕ) → j < k → get_or r.choices j 0 ≡ p → ⊥) → Some k ≡ position_in (row_list r) p
-  position_found p k l e n =
-      let m : k < length (row_list r) = omega (arith, length_row) in
-      let q : position (row_list r) p ≡ k =
-      position_is (row_list r) p k m (get_or-take r.count r.choices k 0 l ∙ e)
-      (λ j b f. n j b (sym (get_or-take r.count r.choices j 0 (omega arith)) ∙ f)) in
-      rw (q, lt-ltb k (length (row_list r)) m)
-
-  pub position_absent : (p : ℕ) → ((j : ℕ) → j < r.count → get_or r.choices j 0 ≡ p → ⊥) → None ≡ position_in (row_list r) p
-  position_absent p n =
-      rw (unlisted (row_list r) p (λ j b f. let c : j < r.count = omega (arith, length_row) in n j c (sym (get_or-take r.count r.choices j 0 c) ∙ f)))
 
   choices_row : row_list r ++ replicate (12 - length (row_list r)) 0 ≡ r.choices
   choices_row =
@@ -87,16 +78,12 @@ neat_of list short =
       zeros = λ k l. get_or-append_right list (replicate (12 - length list) 0) (length list) k 0 refl l ∙ zero_at (12 - length list) (k - length list);
     }
 
--- one more choice is written into a row that was empty past i
-pub choice_write : (xs choices : List ℕ) (i : ℕ) → i < length xs → length xs ≤ 12 → choices ≡ take i xs ++ replicate (12 - i) 0 → set choices i (get_or xs i 0) ≡ take (i + 1) xs ++ replicate (12 - (i + 1)) 0
-choice_write xs choices i l short e =
-    let n : 12 - i ≡ suc (12 - (i + 1)) = omega arith in
-    let z : i - i ≡ 0 = omega arith in
-    rw (e, set-append_right (take i xs) (replicate (12 - i) 0) i i (get_or xs i 0) (length-take-le i xs (omega arith)) (le_refl i), z, n, take_more xs i 0 l, append_assoc (take i xs) (get_or xs i 0 ∷ []) (replicate (12 - (i + 1)) 0))
-
-pub row_made : (xs choices : List ℕ) (n i : ℕ) → n ≡ length xs → i ≡ length xs → choices ≡ take i xs ++ replicate (12 - i) 0 → record { count = n; choices = choices } ≡ row_of xs
-row_made xs choices n i a b e =
-    let c : choices ≡ xs ++ replicate (12 - length xs) 0 = e ∙ rw (b, take_all (length xs) xs (le_refl (length xs))) in
+pub row_made : (xs choices : List ℕ) (n : ℕ) → n ≡ length xs → length xs ≤ 12 → length choices ≡ 12 → ((k : ℕ) → k < 12 → get_or choices k 0 ≡ get_or xs k 0) → record { count = n; choices = choices } ≡ row_of xs
+row_made xs choices n a short long h =
+    let c : choices ≡ xs ++ replicate (12 - length xs) 0 =
+    ext_get_or 0 choices (xs ++ replicate (12 - length xs) 0)
+    (simp (length-append, length-replicate) (omega (arith, long)))
+    (λ k l. h k (omega (arith, long)) ∙ sym (padded_at xs (12 - length xs) k)) in
     λ j. record { count = a j; choices = c j }
 
 -- memory that held as many entries before is beyond them as it was at first
@@ -107,9 +94,9 @@ holding_again e f memory t =
     ∙ drop_at (map row_of e.lists) (drop (trainees e) memory) (trainees e) (length-map e.lists row_of)
     ∙ ap (λ k. drop k memory) (sym t))
 
--- rows that stand hold their entries, and beyond them what other memory has there
-pub held : (rows memory : List Row) (T P : ℕ) (places : List ℕ) → T ≤ length rows → Rowed rows T P places → drop T rows ≡ drop T memory → rows ≡ holding (entries_of rows T P places) memory
-held rows memory T P places room r e =
+-- neat rows hold their lists, and beyond them what other memory has there
+pub held : (rows memory : List Row) (T : ℕ) (places : List ℕ) → T ≤ length rows → AllNeat rows T → drop T rows ≡ drop T memory → rows ≡ holding (entries_of rows T places) memory
+held rows memory T places room neat e =
     sym (take-append-drop T rows)
     ∙ ap (λ (a : List Row). a ++ drop T rows) first
     ∙ rw (trainees_are rows T room, e)
@@ -124,69 +111,35 @@ held rows memory T P places room r e =
         (λ t l.
         let m : t < T = omega (arith, many) in
         get_or-take T rows t (record { count = 0; choices = [] }) m
-        ∙ sym (row_again (row_at rows t) (r.neat t m))
+        ∙ sym (row_again (row_at rows t) (neat t m))
         ∙ sym (get_or-map row_of (map row_list (take T rows)) t [] (record { count = 0; choices = [] }) (omega (arith, trainees_are rows T room)) ∙ ap row_of (list_at rows T t room m)))
 
 -- a row that is written changes one list
-module _ (rows : List Row) (T P : ℕ) (places : List ℕ) (full : length places ≡ 100) (small : P ≤ 100) (room : T ≤ length rows) (r : Rowed rows T P places) (t : ℕ) (l : t < T) (list : List ℕ) (s : Strict P list) where
+module _ (rows : List Row) (T : ℕ) (places : List ℕ) (room : T ≤ length rows) (neat : AllNeat rows T) (law : Lawful (entries_of rows T places)) (t : ℕ) (l : t < T) (list : List ℕ) (s : Strict (length places) list) where
   pub lists_then : map row_list (take T (set rows t (row_of list))) ≡ set (map row_list (take T rows)) t list
   lists_then =
       ap (map row_list) (take-set-lt T rows t (row_of list) l)
       ∙ map-set row_list (take T rows) t (row_of list)
       ∙ ap (λ (xs : List ℕ). set (map row_list (take T rows)) t xs) (list_again list)
 
-  law_then : Lawful (record { places = take P places; lists = set (map row_list (take T rows)) t list })
+  pub law_then : Lawful (entries_of (set rows t (row_of list)) T places)
   law_then =
-      lawful_listed (record { entries = entries_of rows T P places; rules = plain_rules P }) t list r.law (omega (arith, trainees_are rows T room)) (rw (length_offered places P full small) s)
+      rw lists_then
+      (lawful_listed (record { entries = entries_of rows T places; rules = plain_rules (length places) }) t list law (omega (arith, trainees_are rows T room)) s)
 
-  pub rowed_then : Rowed (set rows t (row_of list)) T P places
-  rowed_then = record { neat = λ u m. by u m (cases_eq u t); law = rw lists_then law_then }
+  pub neat_then : AllNeat (set rows t (row_of list)) T
+  neat_then u m = by (cases_eq u t)
     where
-      by : (u : ℕ) → u < T → (u ≡ t) ⊎ (u ≡ t → ⊥) → Neat (row_at (set rows t (row_of list)) u)
-      by u m (inl e) = rw (e, get_or-set_same rows t (row_of list) (record { count = 0; choices = [] }) (omega arith)) (neat_of list s.short)
-      by u m (inr e) = rw (get_or-set_other rows t u (row_of list) (record { count = 0; choices = [] }) e) (r.neat u m)
+      by : (u ≡ t) ⊎ (u ≡ t → ⊥) → Neat (row_at (set rows t (row_of list)) u)
+      by (inl e) = rw (e, get_or-set_same rows t (row_of list) (record { count = 0; choices = [] }) (omega arith)) (neat_of list s.short)
+      by (inr e) = rw (get_or-set_other rows t u (row_of list) (record { count = 0; choices = [] }) e) (neat u m)
 
-  pub beyond_then : drop T (set rows t (row_of list)) ≡ drop T rows
-  beyond_then = drop-set-lt T rows t (row_of list) l
+-- rows of empty lists
+module _ (rows : List Row) (T : ℕ) (clear : take T rows ≡ replicate T (row_of [])) where
+  pub lists_none : map row_list (take T rows) ≡ replicate T []
+  lists_none = rw (clear, map-replicate row_list T (row_of []))
 
--- places that are set
-module _ (rows : List Row) (T P : ℕ) (places : List ℕ) (full : length places ≡ 100) (small : P ≤ 100) (r : Rowed rows T P places) (p : ℕ) (l : p < P) (n : ℕ) where
-  pub placed_then : entries_of rows T P (set places p n) ≡ (with_places (record { entries = entries_of rows T P places; rules = plain_rules P }) p n).entries
-  placed_then = rw (take-set-lt P places p n l)
-
-  pub rowed_placed : 1 ≤ n → n ≤ 400 → Rowed rows T P (set places p n)
-  rowed_placed a b =
-      record {
-        neat = r.neat;
-        law = rw placed_then (lawful_placed (record { entries = entries_of rows T P places; rules = plain_rules P }) p n r.law (omega (arith, length_offered places P full small)) a b);
-      }
-
--- a register just opened
-module _ (rows : List Row) (T P : ℕ) (few : T ≤ 400) (small : P ≤ 100) (clear : take T rows ≡ replicate T (row_of [])) where
-  pub entries_opened : entries_of rows T P (replicate 100 1) ≡ (opened None P T).entries
-  entries_opened = rw (clear, map-replicate row_list T (row_of []), take-replicate {X = ℕ} P 100 1 small)
-
-  pub rowed_opened : Rowed rows T P (replicate 100 1)
-  rowed_opened = record { neat = neat; law = rw entries_opened (lawful_opened P T small few) }
-    where
-      neat : (t : ℕ) → t < T → Neat (row_at rows t)
-      neat t l =
-          rw (sym (get_or-take T rows t (record { count = 0; choices = [] }) l) ∙ ap (λ (x : List Row). row_at x t) clear ∙ get_or-replicate T t (row_of []) (record { count = 0; choices = [] }) l)
-          (neat_of [] (omega arith))
-
--- the rows after the first n are cleared
-module _ (rows front : List Row) (n : ℕ) (room : n ≤ length rows) (clear : front ≡ replicate (length (take (n - 0) (drop 0 rows))) (row_of [])) where
-  empty : front ≡ replicate n (row_of [])
-  empty = let z : n - 0 ≡ n = omega arith in let m : length (take n rows) ≡ n = length-take-le n rows room in clear ∙ rw (z, m)
-
-  long : length front ≡ n
-  long = ap length empty ∙ length-replicate n (row_of [])
-
-  pub cleared_front : take n (front ++ drop (n - 0) (drop 0 rows)) ≡ replicate n (row_of [])
-  cleared_front = take_at front (drop (n - 0) (drop 0 rows)) n long ∙ empty
-
-  pub length_cleared : length (front ++ drop (n - 0) (drop 0 rows)) ≡ length rows
-  length_cleared = simp (length-append, length-drop) (omega (arith, long))
-
-  pub cleared_beyond : drop n (front ++ drop (n - 0) (drop 0 rows)) ≡ drop n rows
-  cleared_beyond = drop_at front (drop (n - 0) (drop 0 rows)) n long ∙ (let z : n - 0 ≡ n = omega arith in rw z)
+  pub neat_none : AllNeat rows T
+  neat_none t l =
+      rw (sym (get_or-take T rows t (record { count = 0; choices = [] }) l) ∙ ap (λ (x : List Row). row_at x t) clear ∙ get_or-replicate T t (row_of []) (record { count = 0; choices = [] }) l)
+      (neat_of [] (omega arith))

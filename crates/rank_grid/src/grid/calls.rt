@@ -7,7 +7,7 @@ ghost use Rattle.rank_grid.specs.Grid.{grid_meaning};
 
 use crate::grid::RankGrid;
 use crate::runs::write_run;
-use rules::entry::{answer, entry_refusal, places_refusal};
+use rules::entry::{check_entry, check_places};
 use rules::register::Register;
 use rules::roll::Roll;
 use rules::terms::Terms;
@@ -19,11 +19,9 @@ impl Register for RankGrid<'_> {
         ensures cells { self.new.cells.now ≡ holding (grid_meaning self.new).entries self.old.cells.now }
         ensures lent { self.new.cells.ghost_name ≡ self.old.cells.ghost_name }
     {
-        answer(entry_refusal(self, t, list))?;
-        let practices = self.practices;
-        let cells = std::mem::replace(&mut self.cells, &mut []);
-        write_run(cells, practices, t.0 as usize, list);
-        self.cells = cells;
+        check_entry(self, t, list)?;
+        let practices = self.numbers.places.len();
+        write_run(self.cells, practices, t, list);
         Ok(())
     }
 
@@ -32,8 +30,8 @@ impl Register for RankGrid<'_> {
         ensures cells { self.new.cells.now ≡ self.old.cells.now }
         ensures lent { self.new.cells.ghost_name ≡ self.old.cells.ghost_name }
     {
-        answer(places_refusal(self, p, n))?;
-        self.places[p.0 as usize] = n;
+        check_places(self, p, n)?;
+        self.numbers.set_places(p, n);
         Ok(())
     }
 }

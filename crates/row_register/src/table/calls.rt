@@ -7,7 +7,7 @@ ghost use Rattle.row_register.specs.Table.{row_meaning};
 
 use crate::table::RowRegister;
 use crate::written::row_of;
-use rules::entry::{answer, entry_refusal, places_refusal};
+use rules::entry::{check_entry, check_places};
 use rules::register::Register;
 use rules::roll::Roll;
 use rules::terms::Terms;
@@ -19,7 +19,7 @@ impl Register for RowRegister<'_> {
         ensures rows { self.new.rows.now ≡ holding (row_meaning self.new).entries self.old.rows.now }
         ensures lent { self.new.rows.ghost_name ≡ self.old.rows.ghost_name }
     {
-        answer(entry_refusal(self, t, list))?;
+        check_entry(self, t, list)?;
         self.rows[t.0 as usize] = row_of(list);
         Ok(())
     }
@@ -29,8 +29,8 @@ impl Register for RowRegister<'_> {
         ensures rows { self.new.rows.now ≡ self.old.rows.now }
         ensures lent { self.new.rows.ghost_name ≡ self.old.rows.ghost_name }
     {
-        answer(places_refusal(self, p, n))?;
-        self.places[p.0 as usize] = n;
+        check_places(self, p, n)?;
+        self.numbers.set_places(p, n);
         Ok(())
     }
 }

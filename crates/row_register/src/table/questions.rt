@@ -1,68 +1,57 @@
 // What a row register answers.
+ghost use Rattle.std.specs.Prelude.{◌≡◌};
 ghost use Rattle.std.proofs.Common.{le_refl};
-ghost use Rattle.row_register.specs.Kept.{rowed_from};
+ghost use Rattle.rules.specs.Meaning.{list_of};
 ghost use Rattle.row_register.specs.Table.{row_meaning};
 
 use crate::table::RowRegister;
+use rules::found::place_of;
 use rules::roll::Roll;
 use rules::terms::Terms;
 use rules::words::{Practice, Trainee};
 
+impl RowRegister<'_> {
+    // The list of trainee t, empty for one that there is not.
+    fn list(&self, t: Trainee) -> &[u16]
+        ensures { result.now ≡ list_of (row_meaning self.now).entries t.0 }
+    {
+        if t.0 >= self.numbers.trainees {
+            return &[];
+        }
+        let rows = &*self.rows;
+        let row = &rows[t.0 as usize];
+        &row.choices[..row.count as usize]
+    }
+}
+
 impl Roll for RowRegister<'_> {
     ghost entries = { λ s. (row_meaning s).entries };
 
-    ghost lawful = { λ s. (rowed_from s.ok).law };
+    ghost lawful = { λ s. s.law };
 
     fn trainees(&self) -> u16 {
-        self.trainees as u16
+        self.numbers.trainees
     }
 
     fn practices(&self) -> u16 {
-        self.practices as u16
+        self.numbers.practices()
     }
 
     fn places_of(&self, p: Practice) -> u16 {
-        let j = p.0 as usize;
-        if j < self.practices {
-            self.places[j]
-        } else {
-            0
-        }
+        self.numbers.places_of(p)
     }
 
     fn list_length(&self, t: Trainee) -> u8 {
-        let i = t.0 as usize;
-        if i < self.trainees {
-            self.rows[i].count
-        } else {
-            0
-        }
+        self.list(t).len() as u8
     }
 
     fn choice(&self, t: Trainee, k: u8) -> Option<Practice> {
-        let i = t.0 as usize;
-        if i >= self.trainees {
-            return None;
-        }
-        let row = self.rows[i];
-        if k >= row.count {
-            return None;
-        }
-        Some(Practice(row.choices[k as usize]))
+        self.list(t).get(k as usize).copied().map(Practice)
     }
 
     fn position(&self, t: Trainee, p: Practice) -> Option<u8> {
-        let i = t.0 as usize;
-        if i >= self.trainees {
-            return None;
-        }
-        let row = self.rows[i];
-        for k in 0..row.count {
-            if row.choices[k as usize] == p.0 {
-                return Some(k);
-            }
-        }
-        None
+        let k = place_of(self.list(t), &p.0)?;
+        Some(k as u8)
     }
 }
 
@@ -76,6 +65,6 @@ impl Terms for RowRegister<'_> {
     }
 
     fn is_open(&self, p: Practice) -> bool {
-        (p.0 as usize) < self.practices
+        self.numbers.has(p)
     }
 }

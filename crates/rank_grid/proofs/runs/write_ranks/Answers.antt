@@ -1,5 +1,4 @@
-use Rattle.std.proofs.Common.{◌≡◌, ℕ, ◌+◌, ◌<◌, length, get_or, ap, ◌∙◌, arith, length-set}
-use lib.ListN.{length-replicate}
+use Rattle.std.proofs.Common.{◌≡◌, ◌+◌, length, get_or, replicate, ap, ◌∙◌, arith, rules, length-set}
 use Rattle.std.proofs.lemmas.List.{get_or-replicate, take_all}
 use Rattle.rules.specs.Meaning.{Strict}
 use Rattle.rules.specs.Questions.{numbers}
@@ -12,20 +11,13 @@ use Rattle.rank_grid.proofs.runs.write_ranks.Goals as goal
 pub loop-i-init : goal.loop-i-init
 loop-i-init c p l =
     let n = length c.args.run.now in
-    let m : p < n = omega (arith, ap length c.clear.ensures, length-replicate {A = ℕ} n 0) in
-    rw c.clear.ensures (get_or-replicate n p 0 0 m)
+    let z : c.fill.new.self ≡ replicate n 0 = c.fill.ensures.after (search rules) in
+    rw z (get_or-replicate n p 0 0 (omega (arith, c.fill.ensures.len)))
 
-pub overflow_cast-run : goal.overflow_cast-run
-overflow_cast-run c = omega (arith, c.requires.short, length_numbers c.args.list.now)
-
-pub overflow_add-run : goal.overflow_add-run
-overflow_add-run c = omega (arith, c.requires.short, length_numbers c.args.list.now)
-
-pub bounds-run-list : goal.bounds-run-list
-bounds-run-list c =
-    let list = c.args.list.now in
+pub bounds-run-p : goal.bounds-run-p
+bounds-run-p c =
     let i = c.loop-i.i in
-    omega (arith, c.requires.below i (omega (arith, length_numbers list)), number list i c.loop-i-test.true, c.loop-i.auto.run, ap length c.clear.ensures, length-replicate {A = ℕ} (length c.args.run.now) 0)
+    omega (arith, c.requires.below i (omega (arith, length_numbers c.args.list.now)), number c.args.list.now i c.loop-i-test.true, c.loop-i.auto.run, c.fill.ensures.len)
 
 pub loop-i-preserved : goal.loop-i-preserved
 loop-i-preserved c =
@@ -33,7 +25,7 @@ loop-i-preserved c =
     let xs = numbers list in
     let i = c.loop-i.i in
     let run = c.loop-i.run in
-    let long : length c.args.run.now ≡ length run = omega (arith, ap length c.clear.ensures, length-replicate {A = ℕ} (length c.args.run.now) 0) in
+    let long : length c.args.run.now ≡ length run = omega (arith, c.fill.ensures.len) in
     let s : Strict (length run) xs = rw (← long) c.requires in
     λ p l.
     rw (← number list i c.loop-i-test.true)
@@ -44,6 +36,6 @@ returns c =
     let xs = numbers c.args.list.now in
     let n = length c.args.run.now in
     let run = c.loop-i.run in
-    let long : length run ≡ n = omega (arith, ap length c.clear.ensures, length-replicate {A = ℕ} n 0) in
+    let long : length run ≡ n = omega (arith, c.fill.ensures.len) in
     let all = take_all c.loop-i.i xs (omega (arith, length_numbers c.args.list.now)) in
     fill_by_all (rank xs) run n 0 long (λ p l. c.loop-i.invariant p (omega arith) ∙ ap (λ ys. rank ys p) all)

@@ -1,29 +1,25 @@
-use Rattle.std.proofs.Common.{⊎_elim, arith, below_more}
-use Rattle.std.proofs.lemmas.Bool.{le-ltb}
-use Rattle.rank_grid.proofs.Standing.{stands}
-use Rattle.rank_grid.proofs.Gridded.{list_past, choice_found, choice_absent, choice_far}
+use Rattle.std.proofs.Common.{ℕ, ◌+◌, ◌==◌, List, length, ap, ◌∙◌, arith}
+use Rattle.std.specs.List.{position}
+use Rattle.rank_grid.specs.Grid.{grid_meaning}
+use Rattle.rules.proofs.Finding.{found_within}
+use Rattle.rank_grid.proofs.Running.{choice_by_place, run_wide}
 use Rattle.rank_grid.proofs.grid.questions.RankGridRoll.choice.Goals as goal
 
-pub returns-then-i-self : goal.returns-then-i-self
-returns-then-i-self c =
+pub returns-in_err-p : goal.returns-in_err-p
+returns-in_err-p c =
     let s = c.args.self.now in
-    ⊎_elim
-    (λ past. rw (list_past s.cells.now s.trainees s.practices c.args.t.0 past, le-ltb c.args.k 0 (omega arith)))
-    (λ far. choice_far s.cells.now s.practices c.args.t.0 _ (stands s c.args.t.0 far.0) c.args.k far.1)
-    c.then-i-self.either
+    let k = c.args.k in
+    let h = choice_by_place (grid_meaning s).entries s.law c.args.t.0 k c.place_of.result (c.place_of.ensures ∙ ap (λ (xs : List ℕ). position (λ r. r == (k + 1)) xs) c.run.ensures) in
+    c.from_residual.ensures ∙ (rw c.in_err-p.was at h)
 
-pub returns-then-self-start : goal.returns-then-self-start
-returns-then-self-start c =
+pub overflow_cast-result : goal.overflow_cast-result
+overflow_cast-result c =
     let s = c.args.self.now in
-    let p = c.loop-p.p in
-    let h = stands s c.args.t.0 c.if-i-self.false in
-    choice_found s.cells.now s.practices c.args.t.0 _ h c.args.k p c.loop-p-test.true (rw c.start-start.ensures.is at c.if-self-start.true)
-
-pub loop-p-preserved : goal.loop-p-preserved
-loop-p-preserved c = below_more _ _ c.loop-p.invariant (λ e. c.if-self-start.false (rw c.start-start.ensures.is e))
+    omega (arith, found_within c.run.result.now (c.args.k + 1) c.in_ok-p.p c.in_ok-p.ensures, ap length c.run.ensures, run_wide (grid_meaning s).entries s.law c.args.t.0, s.law.few_practices)
 
 pub returns : goal.returns
 returns c =
     let s = c.args.self.now in
-    let h = stands s c.args.t.0 c.if-i-self.false in
-    choice_absent s.cells.now s.practices c.args.t.0 _ h c.args.k (λ p l. c.loop-p.invariant p (omega arith))
+    let k = c.args.k in
+    let h = choice_by_place (grid_meaning s).entries s.law c.args.t.0 k c.place_of.result (c.place_of.ensures ∙ ap (λ (xs : List ℕ). position (λ r. r == (k + 1)) xs) c.run.ensures) in
+    rw c.in_ok-p.was at h

@@ -1,28 +1,14 @@
-use Rattle.std.proofs.Common.{ℕ, List, sym, ap, ◌∙◌, arith}
+use Rattle.std.proofs.Common.{◌≡◌, ◌==◌, ℕ, List, Option, sym, ap, ◌∙◌}
+use Rattle.std.specs.List.{position}
 use Rattle.rules.specs.Questions.{position_in}
-use Rattle.row_register.specs.Reading.{row_at}
-use Rattle.row_register.proofs.Rowing.{list_past, position_found, position_absent}
-use Rattle.row_register.proofs.Standing.{neat_at, shown_at}
+use Rattle.rules.proofs.Finding.{found_in}
 use Rattle.row_register.proofs.table.questions.RowRegisterRoll.position.Goals as goal
 
-pub returns-then-i-self : goal.returns-then-i-self
-returns-then-i-self c =
-    let s = c.args.self.now in
-    rw (list_past s.rows.now s.trainees c.args.t.0 s.room c.if-i-self.true)
+placed : (o : Option ℕ) (xs list : List ℕ) (p : ℕ) → o ≡ position (λ q. q == p) xs → xs ≡ list → o ≡ position_in list p
+placed o xs list p h e = h ∙ found_in xs p ∙ ap (λ (ys : List ℕ). position_in ys p) e
 
-pub bounds-row-k : goal.bounds-row-k
-bounds-row-k c = omega (arith, (neat_at c.args.self.now c.args.t.0 c.if-i-self.false).few)
-
-pub returns-then-row-k : goal.returns-then-row-k
-returns-then-row-k c =
-    let s = c.args.self.now in
-    let t = c.args.t.0 in
-    position_found (row_at s.rows.now t) (neat_at s t c.if-i-self.false) c.args.p.0 c.loop-k.k c.loop-k-test.true c.if-row-k.true c.loop-k.invariant
-    ∙ ap (λ (x : List ℕ). position_in x c.args.p.0) (sym (shown_at s t c.if-i-self.false))
+pub returns-in_err-k : goal.returns-in_err-k
+returns-in_err-k c = c.from_residual.ensures ∙ sym c.in_err-k.was ∙ placed _ _ _ c.args.p.0 c.place_of.ensures c.list.ensures
 
 pub returns : goal.returns
-returns c =
-    let s = c.args.self.now in
-    let t = c.args.t.0 in
-    position_absent (row_at s.rows.now t) (neat_at s t c.if-i-self.false) c.args.p.0 (λ j l. c.loop-k.invariant j (omega arith))
-    ∙ ap (λ (x : List ℕ). position_in x c.args.p.0) (sym (shown_at s t c.if-i-self.false))
+returns c = sym c.in_ok-k.was ∙ placed _ _ _ c.args.p.0 c.place_of.ensures c.list.ensures
