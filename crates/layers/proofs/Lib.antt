@@ -1,4 +1,4 @@
-pub mod Answered
+pub mod Chosen
 pub mod Cut
 pub mod Filtered
 pub mod Entered

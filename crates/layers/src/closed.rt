@@ -1,20 +1,23 @@
 // A layer that closes practices: no list shows them, and none is taken that names them.
 ghost use Rattle.std.specs.Prelude.{◌≡◌, false, length, take, replicate, filter};
+ghost use Rattle.std.proofs.lemmas.Map.Entries.{option_filter};
+ghost use Rattle.rules.specs.declared.words.Practice.{Practice};
 ghost use Rattle.rules.specs.Meaning.{meant, list_of};
+ghost use Rattle.rules.specs.Questions.{choice_in};
 ghost use Rattle.layers.specs.Closing.{marks_outcome, close_outcome};
 ghost use Rattle.layers.specs.Shown.{is_closed, unclosed, without, without_rules, without_meaning};
 ghost use Rattle.layers.specs.Kept.{lawful_without};
 
-use rules::entry::{answer, entry_refusal, of_register};
+use rules::entry::check_entry;
 use rules::register::Register;
 use rules::roll::Roll;
 use rules::terms::Terms;
-use rules::words::{Practice, Reason, Refusal, Trainee};
+use rules::words::{Layer, Practice, Reason, Refusal, Trainee};
 
 #[derive(Drop)]
 pub struct Closed<R> {
     below: R,
-    closed: [bool; 100],
+    closed: [bool; 100], // a set of practices, with no heap: a mark for each that a roll may have
 }
 
 impl<R: Register> Closed<R> {
@@ -38,7 +41,7 @@ impl<R: Terms> Closed<R> {
         ensures keeps { self.new.below ≡ self.old.below }
     {
         if p.0 >= self.below.practices() {
-            return Err(of_register(Reason::NoSuchPractice, p.0 as usize));
+            return Err(Layer::Register.refusal(Reason::NoSuchPractice, p.0 as usize));
         }
         self.closed[p.0 as usize] = true;
         Ok(())
@@ -49,25 +52,21 @@ impl<R: Roll> Closed<R> {
     fn is_closed(&self, p: Practice) -> bool
         ensures { result ≡ is_closed self.now.closed p.0 }
     {
-        match self.closed.get(p.0 as usize) {
-            Some(closed) => *closed,
-            None => false,
-        }
+        self.closed.get(p.0 as usize).copied().unwrap_or(false)
+    }
+
+    // The choice at k below, if it is shown.
+    fn shown_at(&self, t: Trainee, k: u8) -> Option<Practice>
+        ensures { result ≡ option_filter (λ (p : Practice). unclosed self.now.closed p.0) (choice_in (list_of (R.Roll.entries self.now.below) t.0) k) }
+    {
+        self.below.choice(t, k).filter(|p| !self.is_closed(*p))
     }
 
     // How many of the first n choices below are shown.
     fn shown_among(&self, t: Trainee, n: u8) -> u8
         ensures { result ≡ length (filter (unclosed self.now.closed) (take n (list_of (R.Roll.entries self.now.below) t.0))) }
     {
-        let mut count = 0;
-        for k in 0..n {
-            if let Some(p) = self.below.choice(t, k) {
-                if !self.is_closed(p) {
-                    count += 1;
-                }
-            }
-        }
-        count
+        (0..n).filter_map(|k| self.shown_at(t, k)).count() as u8
     }
 }
 
@@ -76,6 +75,8 @@ impl<R: Roll> Roll for Closed<R> {
 
     ghost lawful = { λ s. lawful_without s.closed (R.Roll.entries s.below) (R.Roll.lawful s.below) };
 
+    // These three are handed down, and so are `longest`, `places` and what `enter` takes below. A trait of layers with them as default bodies would be no
+    // shorter for two layers.
     fn trainees(&self) -> u16 {
         self.below.trainees()
     }
@@ -93,26 +94,16 @@ impl<R: Roll> Roll for Closed<R> {
     }
 
     fn choice(&self, t: Trainee, k: u8) -> Option<Practice> {
-        let mut left = k;
-        for j in 0..self.below.list_length(t) {
-            if let Some(p) = self.below.choice(t, j) {
-                if !self.is_closed(p) {
-                    if left == 0 {
-                        return Some(p);
-                    }
-                    left -= 1;
-                }
-            }
-        }
-        None
+        (0..self.below.list_length(t))
+            .filter_map(|j| self.shown_at(t, j))
+            .nth(k as usize)
     }
 
     fn position(&self, t: Trainee, p: Practice) -> Option<u8> {
-        let k = self.below.position(t, p)?;
         if self.is_closed(p) {
             return None;
         }
-        Some(self.shown_among(t, k))
+        self.below.position(t, p).map(|k| self.shown_among(t, k))
     }
 }
 
@@ -133,13 +124,11 @@ impl<R: Terms> Terms for Closed<R> {
 impl<R: Register> Register for Closed<R> {
     // What this layer takes, the register below takes.
     fn enter(&mut self, t: Trainee, list: &[Practice]) -> Result<(), Refusal> {
-        answer(entry_refusal(self, t, list))?;
-        self.below.enter(t, list)?;
-        Ok(())
+        check_entry(self, t, list)?;
+        self.below.enter(t, list)
     }
 
     fn places(&mut self, p: Practice, n: u16) -> Result<(), Refusal> {
-        self.below.places(p, n)?;
-        Ok(())
+        self.below.places(p, n)
     }
 }

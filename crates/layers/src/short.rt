@@ -4,7 +4,7 @@ ghost use Rattle.rules.specs.Meaning.{meant};
 ghost use Rattle.layers.specs.Shown.{shortened, shortened_rules, shortened_meaning};
 ghost use Rattle.layers.specs.Kept.{lawful_shortened, bounded_shortened};
 
-use rules::entry::{answer, entry_refusal};
+use rules::entry::check_entry;
 use rules::register::Register;
 use rules::roll::Roll;
 use rules::terms::Terms;
@@ -34,6 +34,7 @@ impl<R: Roll> Roll for Short<R> {
 
     ghost lawful = { λ s. lawful_shortened s.most (R.Roll.entries s.below) (R.Roll.lawful s.below) };
 
+    // These three are handed down, and so are `places` and what `enter` takes, as in Closed.
     fn trainees(&self) -> u16 {
         self.below.trainees()
     }
@@ -51,15 +52,15 @@ impl<R: Roll> Roll for Short<R> {
     }
 
     fn choice(&self, t: Trainee, k: u8) -> Option<Practice> {
-        if k >= self.most {
-            return None;
+        if k < self.most {
+            self.below.choice(t, k)
+        } else {
+            None
         }
-        self.below.choice(t, k)
     }
 
     fn position(&self, t: Trainee, p: Practice) -> Option<u8> {
-        let k = self.below.position(t, p)?;
-        if k < self.most { Some(k) } else { None }
+        self.below.position(t, p).filter(|k| *k < self.most)
     }
 }
 
@@ -80,13 +81,11 @@ impl<R: Terms> Terms for Short<R> {
 impl<R: Register> Register for Short<R> {
     // What this layer takes, the register below takes.
     fn enter(&mut self, t: Trainee, list: &[Practice]) -> Result<(), Refusal> {
-        answer(entry_refusal(self, t, list))?;
-        self.below.enter(t, list)?;
-        Ok(())
+        check_entry(self, t, list)?;
+        self.below.enter(t, list)
     }
 
     fn places(&mut self, p: Practice, n: u16) -> Result<(), Refusal> {
-        self.below.places(p, n)?;
-        Ok(())
+        self.below.places(p, n)
     }
 }

@@ -1,5 +1,5 @@
 -- What a round does with what is found.
-use Rattle.std.proofs.Common.{◌≡◌, ℕ, ◌<◌, ◌≤◌, min, Bool, true, false, cond, ◌&&◌, leb, ◌⊎◌, is_some, Some, None, Ok, Err, count_by, Option, Result, sym, refl, ap, ◌∙◌, subst, inl, inr, arith, le-leb}
+use Rattle.std.proofs.Common.{◌≡◌, ℕ, ◌<◌, ◌≤◌, min, Bool, true, false, cond, ◌&&◌, leb, ◌⊎◌, is_some, Some, Ok, Err, count_by, Option, Result, sym, refl, ap, ◌∙◌, subst, inl, inr, arith, le-leb}
 use Rattle.std.proofs.lemmas.Bool.{cases_lt}
 use borrow.Author.Tests.{lt-leb}
 use Rattle.rules.specs.declared.words.Refusal.{Refusal}
@@ -9,7 +9,10 @@ use Rattle.rules.specs.Meaning.{Entries, trainees}
 use Rattle.voting.specs.Placements.{Placement, seating}
 use Rattle.allotment.specs.declared.found.Found.{Found}
 use Rattle.allotment.specs.Calls.{enough, Finds, Verdict}
-use Rattle.round.specs.Steps.{State, on_verdict, Allots}
+use Rattle.round.specs.Account.{allots}
+use Rattle.round.specs.Steps.{State, on_verdict, Allots, given}
+use Rattle.round.specs.Telling.{GoesOn}
+use Rattle.round.proofs.Going.{goes_on}
 use Rattle.round.proofs.Counting.{taken}
 
 -- nothing is found where there are too few slots
@@ -31,16 +34,6 @@ found_stands s w k f h =
     let d = h.decided q in
     (Some (seating f.seats), λ _. d.0, rw q (ap (λ n. (Ok n, record { meaning = s.meaning; placement = Some (seating f.seats) })) (sym d.1)))
 
-pub refused_stays : (s : State) (w k : ℕ) (r : Refusal) → Finds s.meaning.entries w k (Err r) → Allots s w k (Err r) s
-refused_stays s w k r h = by (enough s.meaning.entries w k) refl
-  where
-    by : (b : Bool) → enough s.meaning.entries w k ≡ b → Allots s w k (Err r) s
-    by true q = let d = h.decided q in (None, λ _. d.0, rw q (ap (λ x. (Err x, s)) (sym d.1)))
-    by false q =
-        let p = h.few q in
-        let z : r ≡ of_round WrongLength (trainees s.meaning.entries) = cc in
-        (None, λ y. absurd (let i : ◌≡◌ {A = ℕ} 0 1 = cc in let v : ⊥ = omega arith in v), rw q (ap (λ x. (Err x, s)) (sym z)))
-
 leb_most : (n w : ℕ) → n ≤ 400 → leb n (min w 400) ≡ leb n w
 leb_most n w h = by (cases_lt w n)
   where
@@ -53,6 +46,10 @@ pub enough_most : (e : Entries) (w k : ℕ) → trainees e ≤ 400 → enough e 
 enough_most e w k h = ap (λ b. b && leb (trainees e) (min k 400)) (leb_most (trainees e) w h) ∙ ap (λ b. leb (trainees e) w && b) (leb_most (trainees e) k h)
 
 -- and with them allot does what it does with more
-pub more_slots : (s s' : State) (w k w' k' : ℕ) (a : Result ℕ Refusal) → enough s.meaning.entries w' k' ≡ enough s.meaning.entries w k → Allots s w' k' a s' → Allots s w k a s'
-more_slots s s' w k w' k' a q h =
-    subst (λ b. (v : Option Placement) × (b ≡ true → Verdict s.meaning.entries v) × (cond b (on_verdict s v) (Err (of_round WrongLength (trainees s.meaning.entries)), s) ≡ (a, s'))) q h
+most_slots : (s s' : State) (w k w₁ k₁ : ℕ) (a : Result ℕ Refusal) → trainees s.meaning.entries ≤ 400 → Allots s w₁ k₁ a s' → w₁ ≡ min w 400 → k₁ ≡ min k 400 → Allots s w k a s'
+most_slots s s' w k w₁ k₁ a l h p q =
+    let same : enough s.meaning.entries w₁ k₁ ≡ enough s.meaning.entries w k = rw (p, q) (enough_most s.meaning.entries w k l) in
+    subst (λ b. (v : Option Placement) × (b ≡ true → Verdict s.meaning.entries v) × (cond b (on_verdict s v) (Err (of_round WrongLength (trainees s.meaning.entries)), s) ≡ (a, s'))) same h
+
+pub goes_on_most : (s s' : State) (w k w₁ k₁ : ℕ) (a : Result ℕ Refusal) → trainees s.meaning.entries ≤ 400 → Allots s w₁ k₁ a s' → w₁ ≡ min w 400 → k₁ ≡ min k 400 → GoesOn s (allots w k (given a s')) s'
+goes_on_most s s' w k w₁ k₁ a l h p q = goes_on s (allots w k (given a s')) s' (a, most_slots s s' w k w₁ k₁ a l h p q, refl)

@@ -22,7 +22,7 @@ at_new [] e = refl
 at_new (x ∷ xs) e = at_new xs e
 
 pub at_within : (account : List Event) (i : ℕ) (e : Event) → at account i ≡ Some e → i < length account
-at_within [] i e h = let z : ◌≡◌ {A = ℕ} 0 1 = cc in omega arith
+at_within [] i e h = absurd (cc)
 at_within (x ∷ xs) zero e h = omega arith
 at_within (x ∷ xs) (suc i) e h = let r = at_within xs i e h in omega arith
 

@@ -1,8 +1,6 @@
 pub mod Appending
-pub mod Agreeing
 pub mod Counting
 pub mod Going
-pub mod Entering
 pub mod Allotting
 pub mod Standing
 pub mod Noting

@@ -1,10 +1,14 @@
 -- What a script leaves, one call more.
-use Rattle.std.proofs.Common.{◌≡◌, ℕ, zero, suc, ◌+◌, ◌-◌, ◌^◌, ◌<◌, ◌≤◌, min, List, [], ◌∷◌, ◌++◌, length, get_or, take, drop, set, None, Ok, Err, Result, sym, refl, ap, ◌∙◌, subst, arith, length-drop, length-set, length-take, le-leb}
+use Rattle.std.proofs.Common.{◌≡◌, ℕ, false, ◌⊎◌, Some, Option, inl, inr, zero, suc, ◌+◌, ◌-◌, ◌^◌, ◌<◌, ◌≤◌, min, fold, List, [], ◌∷◌, ◌++◌, length, get_or, take, drop, set, None, Ok, Err, Result, sym, refl, ap, ◌∙◌, subst, arith, length-drop, length-set, length-take, le-leb}
 use borrow.Rule.Slice.PartMut.{put_mid}
-use Rattle.std.proofs.lemmas.List.{take_more, take_more_set, take_all, drop-set-lt, drop-drop}
+use Rattle.std.proofs.lemmas.List.{take_more, take_more_set, drop-set-lt, drop-drop}
+use Rattle.std.proofs.lemmas.Bool.{cases_lt}
+use Rattle.std.specs.Result.{is_err}
+use borrow.Author.Tests.{lt-leb}
 use Rattle.std.proofs.lemmas.Slice.{take-put_mid, drop-put_mid}
 use Rattle.rules.specs.declared.words.Refusal.{Refusal}
 use Rattle.rules.specs.Meaning.{Meaning, trainees}
+use Rattle.rules.specs.Refusals.{answer_of}
 use Rattle.allotment.specs.Bytes.{bytes_of}
 use Rattle.round.specs.declared.script.Call.{Call}
 use Rattle.round.specs.declared.script.Call.TheVariants.{Allot}
@@ -12,9 +16,9 @@ use Rattle.round.specs.declared.script.Answer.{Answer}
 use Rattle.round.specs.declared.script.Answer.TheVariants.{Allotted}
 use Rattle.round.specs.Account.{Event, enters, sets_places, allots, asks_seat, challenges, changed, standing}
 use Rattle.round.specs.Steps.{State, seats_told, given}
-use Rattle.round.specs.Telling.{Tells, GoesOn}
-use Rattle.round.specs.Serving.{Line, allotted, not_allotted, room_of, rooms, Written, nothing, and_then, serve_refusal, Made, Serves, ServedAs}
-use Rattle.round.specs.Making.{noted}
+use Rattle.round.specs.Telling.{Tells}
+use Rattle.round.specs.Serving.{Line, allotted, not_allotted, room_of, rooms, Written, nothing, and_then, serve_refusal}
+use Rattle.round.specs.Making.{Makes, noted}
 
 -- the line of an allot
 pub noted_line : (n w k : ℕ) (a : Result ℕ Refusal) (s' : State) (b r : List ℕ) → length b ≡ n → r ≡ noted a s' b → Line n (Allot w k) (Allotted a) b r (allots w k (given a s'))
@@ -51,16 +55,15 @@ module _ (n : ℕ) where
   rooms_within (c ∷ cs) (suc i) = let r = rooms_within cs i in omega arith
 
   -- the needed number, one call more
-  pub needed_more : (script : List Call) (i used r used' : ℕ) (d : Call) → i < length script → used ≡ min (rooms n (take i script)) (2 ^ 64 - 1) → r ≡ room_of n (get_or script i d) → used' ≡ min (used + r) (2 ^ 64 - 1) → used' ≡ min (rooms n (take (i + 1) script)) (2 ^ 64 - 1)
-  needed_more script i used r used' d l p q h = omega (arith, rooms_more script i d l)
+  abbrev pub more_room : ℕ → Call → ℕ
+  more_room need c = min (need + room_of n c) (2 ^ 64 - 1)
 
-  -- the next room lies within all
-  pub next_within : (script : List Call) (i used r : ℕ) (d : Call) → i < length script → used ≡ rooms n (take i script) → r ≡ room_of n (get_or script i d) → used + r ≤ rooms n script
-  next_within script i used r d l p q = omega (arith, rooms_more script i d l, rooms_within script (i + 1))
+  needed_from : (script : List Call) (need : ℕ) → need ≤ 2 ^ 64 - 1 → fold more_room need script ≡ min (need + rooms n script) (2 ^ 64 - 1)
+  needed_from [] need l = omega arith
+  needed_from (c ∷ cs) need l = let r = needed_from cs (more_room need c) (omega arith) in omega (arith, r)
 
-  -- the memory suffices
-  pub suffices : (script : List Call) (need len : ℕ) → need ≡ min (rooms n script) (2 ^ 64 - 1) → need ≤ len → len < 2 ^ 63 → rooms n script ≤ len
-  suffices script need len p h l = omega arith
+  pub needed_all : (script : List Call) → fold more_room 0 script ≡ min (rooms n script) (2 ^ 64 - 1)
+  needed_all script = omega (arith, needed_from script 0 (omega arith))
 
 take_longer : (xs : List ℕ) (n k : ℕ) → take (n + k) xs ≡ take n xs ++ take k (drop n xs)
 take_longer xs zero k = ap (λ x. take x xs) (let q : 0 + k ≡ k = omega arith in q)
@@ -68,109 +71,80 @@ take_longer [] (suc n) zero = ap (λ x. take {A = ℕ} x []) (let q : suc n + 0 
 take_longer [] (suc n) (suc k) = ap (λ x. take {A = ℕ} x []) (let q : suc n + suc k ≡ suc (n + suc k) = omega arith in q)
 take_longer (x ∷ xs) (suc n) k = ap (λ y. take y (x ∷ xs)) (let q : suc n + k ≡ suc (n + k) = omega arith in q) ∙ ap (λ r. x ∷ r) (take_longer xs n k)
 
+part_length : (xs : List ℕ) (used r : ℕ) → used + r ≤ length xs → length (take (used + r - used) (drop used xs)) ≡ r
+part_length xs used r h = simp (length-take, length-drop) (omega arith)
+
+-- where a script is not refused there is memory enough
+pub not_refused : (o : Option Refusal) (a : Result (Unit {0}) Refusal) → a ≡ answer_of o → is_err a ≡ false → o ≡ None
+not_refused None a h e = refl
+not_refused (Some r) a h e = let z = rw h at e in cc
+
+pub slots_enough : (n : ℕ) (script : List Call) (answers placements : ℕ) → serve_refusal n script answers placements ≡ None → (length script ≤ answers) × (rooms n script ≤ placements)
+slots_enough n script answers placements h = by (cases_lt answers (length script)) (cases_lt placements (rooms n script))
+  where
+    by : (answers < length script) ⊎ (length script ≤ answers) → (placements < rooms n script) ⊎ (rooms n script ≤ placements) → (length script ≤ answers) × (rooms n script ≤ placements)
+    by (inl l) _ = let z = rw (lt-leb (length script) answers l) at h in cc
+    by (inr l) (inl m) = let z = rw (le-leb (length script) answers l, lt-leb (rooms n script) placements m) at h in cc
+    by (inr l) (inr m) = (l, m)
+
 -- a script half made: the first i calls use up `used` bytes
 pub record Going (m₀ : Meaning) (n : ℕ) (script : List Call) (answers₀ answers : List Answer) (memory₀ memory : List ℕ) (i used : ℕ) (s : State) : Type 0 where
-  pub account : List Event
   pub all : trainees m₀.entries ≡ n
+  pub starts : serve_refusal n script (length answers₀) (length memory₀) ≡ None
+  pub account : List Event
   pub tells : Tells m₀ account s
   pub written : Written n (take i script) (take i answers) (take used memory₀) (take used memory) account
   pub used_up : used ≡ rooms n (take i script)
   pub answers_past : drop i answers ≡ drop i answers₀
   pub memory_past : drop used memory ≡ drop used memory₀
 
-pub going_start : (m₀ : Meaning) (n : ℕ) (script : List Call) (answers : List Answer) (memory : List ℕ) (s : State) → trainees m₀.entries ≡ n → Tells m₀ [] s → Going m₀ n script answers answers memory memory 0 0 s
-going_start m₀ n script answers memory s q t =
-    record { account = []; all = q; tells = t; written = nothing; used_up = refl; answers_past = refl; memory_past = refl }
+pub going_start : (m₀ : Meaning) (n : ℕ) (script : List Call) (answers : List Answer) (memory : List ℕ) (s : State) → trainees m₀.entries ≡ n → serve_refusal n script (length answers) (length memory) ≡ None → Tells m₀ [] s → Going m₀ n script answers answers memory memory 0 0 s
+going_start m₀ n script answers memory s q h t =
+    record { all = q; starts = h; account = []; tells = t; written = nothing; used_up = refl; answers_past = refl; memory_past = refl }
 
--- the trainees are as many as at the opening
-pub still_all : (m₀ : Meaning) (n : ℕ) (script : List Call) (answers₀ answers : List Answer) (memory₀ memory : List ℕ) (i used : ℕ) (s : State) → Going m₀ n script answers₀ answers memory₀ memory i used s → trainees s.meaning.entries ≡ n
-still_all m₀ n script answers₀ answers memory₀ memory i used s g =
-    ap (λ (m : Meaning). trainees m.entries) g.tells.means ∙ (standing_trainees m₀ g.account ∙ g.all)
+module _ {m₀ : Meaning} {n : ℕ} {script : List Call} {answers₀ answers : List Answer} {memory₀ memory : List ℕ} {i used : ℕ} {s : State} (g : Going m₀ n script answers₀ answers memory₀ memory i used s) where
+  enough : (length script ≤ length answers₀) × (rooms n script ≤ length memory₀)
+  enough = slots_enough n script (length answers₀) (length memory₀) g.starts
 
-going_on :
-    (m₀ : Meaning) (n : ℕ) (script : List Call) (answers₀ answers : List Answer) (memory₀ memory : List ℕ) (i used k : ℕ) (s s' : State) (d : Call) (a : Answer) (ys : List ℕ) (e : Event) →
-    Going m₀ n script answers₀ answers memory₀ memory i used s → i < length script → i < length answers → k ≡ room_of n (get_or script i d) → used + k ≤ length memory → length memory ≡ length memory₀ → length ys ≡ k →
-    Line n (get_or script i d) a (take k (drop used memory)) ys e → GoesOn s e s' →
-    Going m₀ n script answers₀ (set answers i a) memory₀ (put_mid used k memory ys) (i + 1) (used + k) s'
-going_on m₀ n script answers₀ answers memory₀ memory i used k s s' d a ys e g l la q fits same ly line goes =
-    record {
-      account = g.account ++ (e ∷ []);
-      all = g.all;
-      tells = goes m₀ g.account g.tells;
-      written = written';
-      used_up = omega (arith, rooms_more n script i d l, g.used_up);
-      answers_past = drop-set-lt (i + 1) answers i a (omega arith) ∙ (sym (drop-drop 1 i answers) ∙ (ap (drop 1) g.answers_past ∙ drop-drop 1 i answers₀));
-      memory_past = drop-put_mid used k memory ys (used + k) (omega arith) (omega arith) ly ∙ (sym (drop-drop k used memory) ∙ (ap (drop k) g.memory_past ∙ drop-drop k used memory₀));
-    }
-  where
-    room_before : length (take k (drop used memory₀)) ≡ room_of n (get_or script i d)
-    room_before = simp (length-take, length-drop) (omega arith)
+  -- the trainees are as many as at the opening
+  still_all : trainees s.meaning.entries ≡ n
+  still_all = ap (λ (m : Meaning). trainees m.entries) g.tells.means ∙ (standing_trainees m₀ g.account ∙ g.all)
 
-    line₀ : Line n (get_or script i d) a (take k (drop used memory₀)) ys e
-    line₀ = subst (λ x. Line n (get_or script i d) a (take k x) ys e) g.memory_past line
+  module _ (d : Call) (r : ℕ) (l : i < length script) (q : r ≡ room_of n (get_or script i d)) (same : length memory ≡ length memory₀) where
+    -- the room of the next call lies within the memory
+    pub next_fits : used + r ≤ length memory
+    next_fits = omega (arith, same, enough.1, g.used_up, rooms_more n script i d l, rooms_within n script (i + 1))
 
-    more : Written n (take i script ++ (get_or script i d ∷ [])) (take i answers ++ (a ∷ [])) (take used memory₀ ++ take k (drop used memory₀)) (take used memory ++ ys) (g.account ++ (e ∷ []))
-    more = and_then (take i script) (take i answers) (take used memory₀) (take used memory) g.account g.written (get_or script i d) a (take k (drop used memory₀)) ys e room_before (ly ∙ q) line₀
+    pub next_room : length (take (used + r - used) (drop used memory)) ≡ room_of (trainees s.meaning.entries) (get_or script i d)
+    next_room = part_length memory used r next_fits ∙ rw still_all q
 
-    written' : Written n (take (i + 1) script) (take (i + 1) (set answers i a)) (take (used + k) memory₀) (take (used + k) (put_mid used k memory ys)) (g.account ++ (e ∷ []))
-    written' =
-        rw (take_more script i d l, take_more_set answers i a la, take_longer memory₀ used k, take-put_mid used k memory ys (used + k) (omega arith) (omega arith)) more
+    -- and the call is written
+    pub going_on : (s' : State) (a : Answer) (ys : List ℕ) → length answers ≡ length answers₀ → length ys ≡ length (take (used + r - used) (drop used memory)) →
+        Makes (trainees s.meaning.entries) s (get_or script i d) a (take (used + r - used) (drop used memory)) ys s' →
+        Going m₀ n script answers₀ (set answers i a) memory₀ (put_mid used (used + r - used) memory ys) (i + 1) (used + r) s'
+    going_on s' a ys sa ly (e, line, goes) =
+        rw part (
+        record {
+          all = g.all;
+          starts = g.starts;
+          account = g.account ++ (e ∷ []);
+          tells = goes m₀ g.account g.tells;
+          written =
+              rw (take_more script i d l, take_more_set answers i a (omega (arith, enough.0)), take_longer memory₀ used r, take-put_mid used r memory ys (used + r) (omega (arith, next_fits, ly')) (omega (arith, next_fits, ly'))) (
+              and_then (take i script) (take i answers) (take used memory₀) (take used memory) g.account g.written (get_or script i d) a (take r (drop used memory₀)) ys e
+              (simp (length-take, length-drop) (omega (arith, next_fits))) (ly' ∙ q) line'
+              );
+          used_up = omega (arith, rooms_more n script i d l, g.used_up);
+          answers_past = drop-set-lt (i + 1) answers i a (omega arith) ∙ (sym (drop-drop 1 i answers) ∙ (ap (drop 1) g.answers_past ∙ drop-drop 1 i answers₀));
+          memory_past = drop-put_mid used r memory ys (used + r) (omega (arith, next_fits)) (omega (arith, next_fits)) ly' ∙ (sym (drop-drop r used memory) ∙ (ap (drop r) g.memory_past ∙ drop-drop r used memory₀));
+        }
+        )
+      where
+        part : used + r - used ≡ r
+        part = omega arith
 
-part_length : (xs : List ℕ) (used r : ℕ) → used + r ≤ length xs → length (take (used + r - used) (drop used xs)) ≡ r
-part_length xs used r h = simp (length-take, length-drop) (omega arith)
+        ly' : length ys ≡ r
+        ly' = ly ∙ part_length memory used r next_fits
 
--- `going_on`, with the room as the code cuts it, and the trainees as the round has them
-pub going_step :
-    (m₀ : Meaning) (n n' : ℕ) (script : List Call) (answers₀ answers : List Answer) (memory₀ memory : List ℕ) (i used r : ℕ) (s s' : State) (d : Call) (a : Answer) (ys : List ℕ) (e : Event) → n' ≡ n →
-    Going m₀ n script answers₀ answers memory₀ memory i used s → i < length script → i < length answers → r ≡ room_of n (get_or script i d) → used + r ≤ length memory → length memory ≡ length memory₀ →
-    length ys ≡ length (take (used + r - used) (drop used memory)) → Line n' (get_or script i d) a (take (used + r - used) (drop used memory)) ys e → GoesOn s e s' →
-    Going m₀ n script answers₀ (set answers i a) memory₀ (put_mid used (used + r - used) memory ys) (i + 1) (used + r) s'
-going_step m₀ n n' script answers₀ answers memory₀ memory i used r s s' d a ys e p g l la q fits same ly line goes =
-    subst (λ x. Going m₀ n script answers₀ (set answers i a) memory₀ (put_mid used x memory ys) (i + 1) (used + r) s') (sym k)
-    (going_on m₀ n script answers₀ answers memory₀ memory i used r s s' d a ys e g l la q fits same (ly ∙ part_length memory used r fits)
-    (subst (λ x. Line x (get_or script i d) a (take r (drop used memory)) ys e) p (subst (λ x. Line n' (get_or script i d) a (take x (drop used memory)) ys e) k line)) goes)
-  where
-    k : used + r - used ≡ r
-    k = omega arith
-
--- the room of the next call
-pub next_room : (n n' : ℕ) (script : List Call) (i : ℕ) (d : Call) (memory : List ℕ) (used r : ℕ) → n' ≡ n → r ≡ room_of n (get_or script i d) → used + r ≤ length memory → length (take (used + r - used) (drop used memory)) ≡ room_of n' (get_or script i d)
-next_room n n' script i d memory used r p q fits = part_length memory used r fits ∙ (q ∙ ap (λ x. room_of x (get_or script i d)) (sym p))
-
-going_end :
-    (m₀ : Meaning) (script : List Call) (answers₀ answers : List Answer) (memory₀ memory : List ℕ) (i used : ℕ) (s : State) →
-    Going m₀ (trainees m₀.entries) script answers₀ answers memory₀ memory i used s → length script ≡ i → Made m₀ script answers₀ answers memory₀ memory s.meaning
-going_end m₀ script answers₀ answers memory₀ memory i used s g p =
-    record {
-      account = g.account;
-      written =
-          subst (λ x. Written n script (take (length script) answers) (take x memory₀) (take x memory) g.account) u
-          (subst (λ x. Written n script (take x answers) (take used memory₀) (take used memory) g.account) (sym p)
-          (subst (λ x. Written n x (take i answers) (take used memory₀) (take used memory) g.account) all g.written));
-      law = g.tells.law;
-      stands = g.tells.means;
-      answers_past = subst (λ x. drop x answers ≡ drop x answers₀) (sym p) g.answers_past;
-      placements_past = subst (λ x. drop x memory ≡ drop x memory₀) u g.memory_past;
-    }
-  where
-    n : ℕ
-    n = trainees m₀.entries
-
-    all : take i script ≡ script
-    all = take_all i script (omega arith)
-
-    u : used ≡ rooms n script
-    u = g.used_up ∙ ap (rooms n) all
-
-pub served :
-    (m₀ : Meaning) (n : ℕ) (script : List Call) (answers answers' : List Answer) (memory memory' : List ℕ) (i used : ℕ) (s : State) → length script ≤ length answers → rooms n script ≤ length memory →
-    Going m₀ n script answers answers' memory memory' i used s → length script ≡ i → ServedAs m₀ script (Ok tt) answers answers' memory memory' s.meaning
-served m₀ n script answers answers' memory memory' i used s h k g p =
-    subst (λ o. Serves o m₀ script (Ok tt) answers answers' memory memory' s.meaning) (sym none)
-    (refl, going_end m₀ script answers answers' memory memory' i used s (subst (λ x. Going m₀ x script answers answers' memory memory' i used s) (sym g.all) g) p)
-  where
-    k' : rooms (trainees m₀.entries) script ≤ length memory
-    k' = subst (λ x. rooms x script ≤ length memory) (sym g.all) k
-
-    none : serve_refusal (trainees m₀.entries) script (length answers) (length memory) ≡ None
-    none = rw (le-leb (length script) (length answers) h, le-leb (rooms (trainees m₀.entries) script) (length memory) k')
+        line' : Line n (get_or script i d) a (take r (drop used memory₀)) ys e
+        line' = rw (part, g.memory_past, still_all) at line

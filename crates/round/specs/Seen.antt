@@ -1,5 +1,5 @@
 -- What callers see of a round.
-use Rattle.std.specs.Prelude.{Bool, cond, List, Some, None, Ok, Err, Option, Result}
+use Rattle.std.specs.Prelude.{ℕ, List, Some, None, Ok, Err, Option, Result}
 use Rattle.rules.specs.declared.words.Practice.{Practice}
 use Rattle.rules.specs.declared.words.Refusal.{Refusal}
 use Rattle.rules.specs.Meaning.{Entries, Rules, meant}
@@ -8,11 +8,12 @@ use Rattle.round.specs.Steps.{State}
 use Rattle.round.specs.declared.rounds.Round.{Round}
 
 -- the placement of a table, if it stands
-abbrev pub shown : Bool → List (Option Practice) → Option Placement
-shown stands seats = cond stands (Some (seating seats)) None
+abbrev pub shown : Option ℕ → List (Option Practice) → Option Placement
+shown None seats = None
+shown (Some number) seats = Some (seating seats)
 
 abbrev pub seen : {R : Type 0} → (R → Entries) → (R → Rules) → Round R → State
-seen entries rules r = record { meaning = meant entries rules r.register; placement = shown r.stands r.table.seats }
+seen entries rules r = record { meaning = meant entries rules r.register; placement = shown r.table.seated r.table.seats }
 
 -- an answer of seat, with the practice by its number
 abbrev pub numbered : Result (Option Practice) Refusal → Result Seat Refusal

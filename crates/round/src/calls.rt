@@ -8,14 +8,13 @@ ghost use Rattle.round.specs.Steps.{unplaced, enter_step, places_step, seat_answ
 ghost use Rattle.round.specs.Telling.{Tells, GoesOn};
 ghost use Rattle.round.specs.Seen.{seen, numbered};
 
-use crate::refusing::of_round;
 use crate::rounds::Round;
 use crate::table::Table;
 use allotment::calls;
 use rules::register::Register;
 use rules::roll::Roll;
 use rules::terms::Terms;
-use rules::words::{Move, Practice, Reason, Refusal, Trainee};
+use rules::words::{Layer, Move, Practice, Reason, Refusal, Trainee};
 
 impl<R: Register> Round<R> {
     // Opens a round; no placement stands.
@@ -28,7 +27,6 @@ impl<R: Register> Round<R> {
         Round {
             register,
             table: Table::none(),
-            stands: false,
         }
     }
 
@@ -52,7 +50,7 @@ impl<R: Register> Round<R> {
         ensures law { GoesOn (seen R.Roll.entries R.Terms.rules self.old) (enters t.0 (numbers list.now) result) (seen R.Roll.entries R.Terms.rules self.new) }
     {
         self.register.enter(t, list)?;
-        self.stands = false; // the list is new
+        self.table.lapse(); // the list is new
         Ok(())
     }
 
@@ -62,7 +60,7 @@ impl<R: Register> Round<R> {
         ensures law { GoesOn (seen R.Roll.entries R.Terms.rules self.old) (sets_places p.0 n result) (seen R.Roll.entries R.Terms.rules self.new) }
     {
         self.register.places(p, n)?;
-        self.stands = false; // the places are new
+        self.table.lapse(); // the places are new
         Ok(())
     }
 
@@ -72,13 +70,11 @@ impl<R: Register> Round<R> {
         ensures law { GoesOn (seen R.Roll.entries R.Terms.rules self.now) (asks_seat t.0 (numbered result)) (seen R.Roll.entries R.Terms.rules self.now) }
     {
         if t.0 >= self.trainees() {
-            return Err(of_round(Reason::NoSuchTrainee, t.0 as usize));
+            return Err(Layer::Round.refusal(Reason::NoSuchTrainee, t.0 as usize));
         }
-        if !self.stands {
-            return Err(of_round(Reason::NothingStands, t.0 as usize));
-        }
-        let i = t.0 as usize;
-        Ok(self.table.seats[i])
+        self.table
+            .seat(t)
+            .ok_or(Layer::Round.refusal(Reason::NothingStands, t.0 as usize))
     }
 
     // A fullest unbeaten placement of the standing entries, which now stands, and how many it seats.
@@ -90,11 +86,8 @@ impl<R: Register> Round<R> {
         ensures law { GoesOn (seen R.Roll.entries R.Terms.rules self.old) (allots (length waiting.old) (length moves.old) (given result (seen R.Roll.entries R.Terms.rules self.new))) (seen R.Roll.entries R.Terms.rules self.new) }
     {
         let found = calls::find(&self.register, waiting, moves)?;
-        let table = Table::of(found.seats, found.seated);
-        let seated = table.seated();
-        self.table = table;
-        self.stands = true;
-        Ok(seated)
+        self.table = Table::of(found.seats, found.seated);
+        Ok(found.seated)
     }
 
     // The strongest rival of the offered placement for the standing entries, and its majority.

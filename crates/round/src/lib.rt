@@ -4,7 +4,6 @@
 pub mod calls;
 mod makes;
 mod notes;
-mod refusing;
 pub mod rooms;
 pub mod rounds;
 pub mod script;

@@ -16,31 +16,7 @@ use rules::roll::Roll;
 use rules::terms::Terms;
 use rules::words::{Move, Practice, Refusal, Trainee};
 
-// As many slots as are asked for, and 400 at most: no roll has more trainees.
-fn lent(n: usize) -> usize
-    ensures { result ≡ min n 400 }
-{
-    if n < 400 { n } else { 400 }
-}
-
-// An allot with `w` and `k` slots, out of 400 of each.
-fn allot_with<R: Register>(
-    round: &mut Round<R>,
-    waiting: &mut [Trainee],
-    moves: &mut [Move],
-    w: usize,
-    k: usize,
-) -> Result<u16, Refusal>
-    requires { (length waiting.old ≡ 400) × (length moves.old ≡ 400) }
-    ensures exact { Allots (seen R.Roll.entries R.Terms.rules round.old) w k result (seen R.Roll.entries R.Terms.rules round.new) }
-    ensures law { GoesOn (seen R.Roll.entries R.Terms.rules round.old) (allots w k (given result (seen R.Roll.entries R.Terms.rules round.new))) (seen R.Roll.entries R.Terms.rules round.new) }
-{
-    let w = lent(w);
-    let k = lent(k);
-    round.allot(&mut waiting[0..w], &mut moves[0..k])
-}
-
-// An allot that leaves the seats given in its room.
+// An allot with `w` and `k` slots that leaves the seats given in its room.
 fn allot_noted<R: Register>(
     round: &mut Round<R>,
     w: usize,
@@ -51,13 +27,10 @@ fn allot_noted<R: Register>(
     ensures room { room.new ≡ noted result (seen R.Roll.entries R.Terms.rules round.new) room.old }
     ensures law { GoesOn (seen R.Roll.entries R.Terms.rules round.old) (allots w k (given result (seen R.Roll.entries R.Terms.rules round.new))) (seen R.Roll.entries R.Terms.rules round.new) }
 {
-    let mut waiting = [Trainee(0); 400];
-    let mut moves = [Move {
-        trainee: Trainee(0),
-        left: None,
-        taken: Practice(0),
-    }; 400];
-    let seated = allot_with(round, &mut waiting, &mut moves, w, k)?;
+    let mut waiting = [Trainee::default(); 400];
+    let mut moves = [Move::default(); 400];
+    let (w, k) = (w.min(400), k.min(400)); // no roll has more trainees
+    let seated = round.allot(&mut waiting[..w], &mut moves[..k])?;
     note(round, room);
     Ok(seated)
 }
@@ -72,9 +45,6 @@ pub(crate) fn make<R: Register>(round: &mut Round<R>, call: Call<'_>, room: &mut
         Call::Places(p, n) => Answer::Placed(round.places(p, n)),
         Call::Allot(w, k) => Answer::Allotted(allot_noted(round, w, k, room)),
         Call::Seat(t) => Answer::Seated(round.seat(t)),
-        Call::Challenge(offered, _) => {
-            let answer = round.challenge(offered, room);
-            Answer::Challenged(answer)
-        }
+        Call::Challenge(offered, _) => Answer::Challenged(round.challenge(offered, room)),
     }
 }

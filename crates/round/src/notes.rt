@@ -7,21 +7,11 @@ ghost use Rattle.round.specs.Seen.{seen};
 ghost use Rattle.round.specs.Making.{Narrow};
 
 use crate::rounds::Round;
+use allotment::bytes::byte_of;
 use rules::register::Register;
 use rules::roll::Roll;
 use rules::terms::Terms;
-use rules::words::{Practice, Trainee};
-
-// A seat as a byte.
-fn byte_of(seat: Option<Practice>) -> u8
-    requires { (p : ℕ) → stored seat ≡ Some p → p < 256 }
-    ensures { result ≡ byte_of_seat (stored seat) }
-{
-    match seat {
-        Some(p) => p.0 as u8,
-        None => 255,
-    }
-}
+use rules::words::Trainee;
 
 // Writes what seat answers, a byte for each trainee.
 pub(crate) fn note<R: Register>(round: &Round<R>, room: &mut [u8])
@@ -29,8 +19,7 @@ pub(crate) fn note<R: Register>(round: &Round<R>, room: &mut [u8])
     requires narrow { Narrow (seats_told (seen R.Roll.entries R.Terms.rules round.now)) }
     ensures { room.new ≡ bytes_of (length room.old) (seats_told (seen R.Roll.entries R.Terms.rules round.now)) }
 {
-    for t in 0..room.len() {
-        let seat = round.seat(Trainee(t as u16)).unwrap_or(None);
-        room[t] = byte_of(seat);
+    for (t, byte) in room.iter_mut().enumerate() {
+        *byte = byte_of(round.seat(Trainee(t as u16)).unwrap_or(None));
     }
 }

@@ -19,9 +19,8 @@ pub fn room_for(call: Call<'_>, trainees: usize) -> usize
 pub fn needed(script: &[Call<'_>], trainees: usize) -> usize
     ensures { result ≡ min (all_rooms trainees script.now) (2 ^ 64 - 1) }
 {
-    let mut n = 0usize;
-    for i in 0..script.len() {
-        n = n.saturating_add(room_for(script[i], trainees));
-    }
-    n
+    script.iter().fold(
+        0,
+        |n: usize, call| n.saturating_add(room_for(*call, trainees)),
+    )
 }

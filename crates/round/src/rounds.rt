@@ -1,9 +1,8 @@
-// A round: a register, the seats of the latest placement given, and whether that placement stands.
+// A round: a register, and the table of the latest placement given.
 use crate::table::Table;
 
 #[derive(Drop)]
 pub struct Round<R> {
     pub(crate) register: R,
     pub(crate) table: Table,
-    pub(crate) stands: bool,
 }

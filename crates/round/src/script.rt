@@ -2,7 +2,7 @@
 use rules::words::{Practice, Refusal, Trainee};
 
 /// A call of a script.
-#[derive(Clone, Copy)]
+#[derive(Clone, Copy, PartialEq, Eq, Debug)]
 pub enum Call<'a> {
     Enter(Trainee, &'a [Practice]),
     Places(Practice, u16),
@@ -14,7 +14,7 @@ pub enum Call<'a> {
 }
 
 /// What a call answered.
-#[derive(Clone, Copy)]
+#[derive(Clone, Copy, PartialEq, Eq, Debug)]
 pub enum Answer {
     Entered(Result<(), Refusal>),
     Placed(Result<(), Refusal>),

@@ -1,12 +1,10 @@
-use Rattle.std.proofs.Common.{◌-◌, ◌^◌, min, ap, ◌∙◌}
-use Rattle.std.proofs.lemmas.List.{take_all}
-use Rattle.round.specs.Serving.{rooms}
-use Rattle.round.proofs.Writing.{needed_more}
+use Rattle.std.proofs.Common.{◌∙◌, rules, tests}
+use Rattle.std.proofs.lemmas.Iterator.{YieldsList-from_slice}
+use Rattle.std.proofs.lemmas.Iterator.Consumers.{fold_from_yields_List}
+use Rattle.round.proofs.Writing.{more_room, needed_all}
 use Rattle.round.proofs.rooms.needed.Goals as goal
 
-pub loop-i-preserved : goal.loop-i-preserved
-loop-i-preserved c =
-    needed_more c.args.trainees c.args.script.now c.loop-i.i c.loop-i.n c.room_for.result c.saturating_add-n.result _ c.loop-i-test.true c.loop-i.invariant c.room_for.ensures c.saturating_add-n.ensures
-
 pub returns : goal.returns
-returns c = c.loop-i.invariant ∙ ap (λ s. min (rooms c.args.trainees s) (2 ^ 64 - 1)) (take_all c.loop-i.i c.args.script.now c.loop-i-test.false)
+returns c =
+    fold_from_yields_List _ (more_room c.args.trainees) 0 c.fold.result c.fold.ensures.ran (YieldsList-from_slice c.args.script.now cc) (λ a x b q k. search (rules, tests))
+    ∙ needed_all c.args.trainees c.args.script.now

@@ -1,5 +1,5 @@
-use Rattle.round.proofs.Standing.{one_stands, stands_or_not}
+use Rattle.round.proofs.Standing.{stands_or_not}
 use Rattle.round.proofs.theorems.one_stands.Goals as goal
 
-pub returns : goal.returns
-returns c = record { one = one_stands; known = stands_or_not }
+pub returns-clause-known : goal.returns-clause-known
+returns-clause-known c = stands_or_not

@@ -1,24 +1,17 @@
-use Rattle.std.proofs.Common.{not, take, sym, ap, ◌∙◌, arith, length-take}
+use Rattle.std.proofs.Common.{length, filter, take, ap, ◌∙◌, rules, tests, arith}
+use Rattle.std.proofs.lemmas.Iterator.{YieldsList-from_range}
+use Rattle.std.proofs.lemmas.Iterator.Consumers.{YieldsList-at, YieldsList-from_filter_map, count_from_yields_List}
+use Rattle.std.proofs.lemmas.List.{length-map}
 use Rattle.rules.specs.Meaning.{list_of}
 use Rattle.layers.specs.Shown.{unclosed}
-use Rattle.layers.specs.Kept.{kept_most}
-use Rattle.layers.proofs.Answered.{choice_none}
-use Rattle.layers.proofs.Filtered.{count_kept, count_skipped, count_past}
+use Rattle.layers.proofs.Chosen.{practice, chosen, chosen_from}
 use Rattle.layers.proofs.closed.Closed.shown_among.Goals as goal
-use Rattle.layers.proofs.closed.Closed.shown_among.Goals.{in-Some+then-not-is_closed, in-Some+else-not-is_closed, in_default}
 
-pub overflow_add-count : goal.overflow_add-count
-overflow_add-count g c =
-    let s = c.args.self.now in
-    let list = list_of (g.R.Roll.entries s.below) c.args.t.0 in
-    omega (arith, c.loop-k.invariant, kept_most (unclosed s.closed) (take c.loop-k.k list), length-take c.loop-k.k list)
-
-pub loop-k-preserved : goal.loop-k-preserved
-loop-k-preserved g c =
-    let s = c.args.self.now in
-    let list = list_of (g.R.Roll.entries s.below) c.args.t.0 in
-    elim c.match-choice.branch [
-      | in-Some+then-not-is_closed w ↦ w.count-is ∙ count_kept (unclosed s.closed) list c.loop-k.k c.loop-k.count c.loop-k.invariant w.in-Some.p w.in-Some.ensures (ap not (sym w.if-not-is_closed.ensures))
-      | in-Some+else-not-is_closed w ↦ w.count-is ∙ count_skipped (unclosed s.closed) list c.loop-k.k c.loop-k.count c.loop-k.invariant w.in-Some.p w.in-Some.ensures (ap not (sym w.if-not-is_closed.ensures))
-      | in_default w ↦ w.count-is ∙ count_past (unclosed s.closed) list c.loop-k.k c.loop-k.count c.loop-k.invariant (choice_none list c.loop-k.k w.in_default.ensures)
-    ]
+pub returns : goal.returns
+returns g c =
+    let test = unclosed c.args.self.now.closed in
+    let list = list_of (g.R.Roll.entries c.args.self.now.below) c.args.t.0 in
+    count_from_yields_List c.filter_map.result c.count.result c.count.ensures.ran
+    (YieldsList-from_filter_map _ (chosen test list) (YieldsList-at c.filter_map.ensures.source (YieldsList-from_range 0 c.args.n c.args.n (cc) (omega arith))) c.filter_map.ensures.closure (λ x r q k. search (rules, tests)))
+    ∙ ap length (chosen_from test list c.args.n 0)
+    ∙ length-map (filter test (take c.args.n list)) practice
