@@ -2,68 +2,55 @@
 #![tactic(auto)]
 
 mod calls;
+mod faults;
 mod lines;
 mod pile;
 mod plan;
 mod print;
 mod words;
 
-use crate::calls::script_of;
-use crate::pile::{Closing, run_pile};
+use crate::pile::run_pile;
 use crate::plan::{Item, Plan, read_script};
-use crate::print::{put_answer, put_item};
-use anyhow::anyhow;
-use rank_grid::grid::RankGrid;
+use crate::print::{accepted, call_answered};
 use round::rooms::{needed, room_for};
 use round::script::{Answer, Call};
+use rules::words::Refusal;
 use std::io::Read;
-use texts::text::Text;
 
-/// A script that was made: its calls, and what they answered.
+/// A script that was made: its calls, and what they and the opening lines answered.
 #[derive(Drop)]
 struct Ran<'a> {
     script: Vec<Call<'a>>,
-    opened: Closing,
-    closings: Vec<Closing>,
+    opened: Result<(), Refusal>,
+    closings: Vec<Result<(), Refusal>>,
     answers: Vec<Answer>,
     placements: Vec<u8>,
     trainees: usize,
 }
 
-// How many cells and trainees the round has: none where its opening is refused.
-fn sizes(plan: &Plan, opened: Closing) -> (usize, usize) {
-    match opened {
-        Ok(()) => (
-            plan.practices as usize * plan.trainees as usize,
-            plan.trainees as usize,
-        ),
-        Err(_) => (0, 0),
-    }
-}
-
 fn make<'a>(rt: &HostRuntime, plan: &'a Plan) -> anyhow::Result<Ran<'a>> {
     let heap = rt.alloc();
-    let opened = RankGrid::check(plan.practices, plan.trainees, usize::MAX);
-    let (cells, trainees) = sizes(plan, opened);
-    let mut cells = vec![in heap; 0u8; cells]?;
-    let mut closings = vec![in heap; Ok(()); plan.closed.len()]?;
-    let mut answers = vec![in heap; Answer::Entered(Ok(())); plan.calls.len()]?;
-    let script = script_of(heap, &plan.kept, plan.calls.as_slice(), trainees)?;
+    // a script that opens no round has no calls either
+    let opening = plan.opening.unwrap_or_default();
+    let trainees = usize::from(opening.trainees_taken());
+    let script: Vec<Call<'a>> = plan
+        .calls
+        .iter()
+        .map(|call| call.on(trainees))
+        .collect(heap)?;
+    let mut answers = vec![in heap; Answer::Entered(Ok(())); script.len()]?;
     let mut placements = vec![in heap; 255u8; needed(script.as_slice(), trainees)]?;
-    let served = run_pile(
-        plan,
-        cells.as_mut_slice(),
-        closings.as_mut_slice(),
+    let closings = run_pile(
+        heap,
+        opening,
+        plan.closed.as_slice(),
         script.as_slice(),
         answers.as_mut_slice(),
         placements.as_mut_slice(),
-    );
-    if served.is_err() {
-        return Err(anyhow!("there is too little memory for the account"));
-    }
+    )?;
     Ok(Ran {
         script,
-        opened,
+        opened: opening.check(),
         closings,
         answers,
         placements,
@@ -73,21 +60,27 @@ fn make<'a>(rt: &HostRuntime, plan: &'a Plan) -> anyhow::Result<Ran<'a>> {
 
 // Prints what the lines of the script came to, in their order.
 fn print_account(rt: &HostRuntime, plan: &Plan, ran: &Ran<'_>) -> anyhow::Result<()> {
-    let mut used = 0usize;
-    for item in plan.items.as_slice() {
-        let mut text = Text::new();
-        if let Item::Called(at) = *item {
-            if let (Some(call), Some(answer)) = (ran.script.get(at), ran.answers.get(at)) {
-                let end = used.saturating_add(room_for(*call, ran.trainees));
-                if let Some(seats) = ran.placements.as_slice().get(used..end) {
-                    put_answer(&mut text, *answer, seats);
+    let mut closings = ran.closings.iter();
+    let mut answers = ran.script.iter().zip(ran.answers.iter());
+    let mut placements = ran.placements.as_slice();
+    for item in plan.items.iter() {
+        match *item {
+            Item::Opened => rt.write_all(accepted(ran.opened, b"opened").as_bytes())?,
+            Item::Shortened(most) => println!(rt; "lists are cut to {most}")?,
+            Item::Closed => {
+                if let Some(closing) = closings.next() {
+                    rt.write_all(accepted(*closing, b"closed").as_bytes())?;
                 }
-                used = end;
             }
-        } else {
-            put_item(&mut text, *item, ran.opened, ran.closings.as_slice());
+            Item::Called => {
+                if let Some((call, answer)) = answers.next() {
+                    let room = room_for(*call, ran.trainees);
+                    let seats = placements.split_off(..room).unwrap_or(&[]);
+                    rt.write_all(call_answered(*answer, seats).as_bytes())?;
+                }
+            }
+            Item::Faulty(number, fault) => println!(rt; "line {number}: {fault}")?,
         }
-        rt.write_all(text.as_bytes())?;
     }
     Ok(())
 }

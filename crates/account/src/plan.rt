@@ -1,130 +1,103 @@
 // The lines of a script in their order, and what they come to: an opening, calls, messages.
-use crate::lines::{Kept, Line, Planned, read};
+use crate::calls::Planned;
+use crate::faults::Fault;
+use crate::lines::{Line, read};
+use crate::pile::Opening;
 use rules::words::Practice;
 use std::alloc::{AllocError, Global};
 
-/// What is to be printed for a line.
+/// What a line comes to. Closings and calls are answered in the order of their lines.
 #[derive(Clone, Copy)]
 pub enum Item {
     Opened,
     Shortened(usize),
-    Closed(usize),
-    Called(usize),
-    // the line's number
-    NoCall(usize),
-    NotOpened(usize),
-    TooLate(usize),
+    Closed,
+    Called,
+    // with the line's number
+    Faulty(usize, Fault),
 }
 
-/// A script: its lines as items, how the round is opened, and the calls on it.
+/// A script: its lines as items, how the round is opened, the practices to be closed, and the calls.
 #[derive(Drop)]
 pub struct Plan {
     pub items: Vec<Item>,
-    pub kept: Kept,
-    pub practices: u16,
-    pub trainees: u16,
-    pub most: u8,
+    pub opening: Option<Opening>,
     pub closed: Vec<Practice>,
     pub calls: Vec<Planned>,
-    opened: bool,
 }
 
 impl Plan {
-    pub fn new(heap: Global) -> Plan {
+    fn new(heap: Global) -> Plan {
         Plan {
             items: Vec::new(heap),
-            kept: Kept {
-                practices: Vec::new(heap),
-                offered: Vec::new(heap),
-            },
-            practices: 0,
-            trainees: 0,
-            most: 12,
+            opening: None,
             closed: Vec::new(heap),
             calls: Vec::new(heap),
-            opened: false,
         }
     }
 
-    // One line more, the `number`th.
-    pub fn add(&mut self, line: &[u8], number: usize) -> Result<(), AllocError> {
-        match read(line, &mut self.kept)? {
-            Line::Empty => Ok(()),
-            Line::NoCall => self.note(Item::NoCall(number)),
-            Line::Open(practices, trainees) => self.open(practices, trainees, number),
-            Line::Short(most) => self.shorten(most, number),
-            Line::Close(p) => self.close(p, number),
-            Line::Call(call) => self.call(call, number),
-        }
-    }
-
-    fn note(&mut self, item: Item) -> Result<(), AllocError> {
+    // One line more.
+    fn add(&mut self, heap: Global, line: &[u8]) -> Result<(), Fault> {
+        let Some(line) = read(heap, line)? else {
+            return Ok(());
+        };
+        let item = match line {
+            Line::Open(opening) => self.open(opening)?,
+            Line::Short(most) => self.shorten(most)?,
+            Line::Close(p) => self.close(p)?,
+            Line::Call(call) => self.call(call)?,
+        };
         self.items.push(item)?;
         Ok(())
     }
 
-    fn open(&mut self, practices: u16, trainees: u16, number: usize) -> Result<(), AllocError> {
-        if self.opened {
-            return self.note(Item::TooLate(number));
+    fn open(&mut self, opening: Opening) -> Result<Item, Fault> {
+        if self.opening.is_some() {
+            return Err(Fault::TooLate);
         }
-        self.opened = true;
-        self.practices = practices;
-        self.trainees = trainees;
-        self.note(Item::Opened)
+        self.opening = Some(opening);
+        Ok(Item::Opened)
     }
 
-    // Before the first call; of several, the shortest counts.
-    fn shorten(&mut self, most: usize, number: usize) -> Result<(), AllocError> {
-        if !self.opened {
-            return self.note(Item::NotOpened(number));
-        }
+    // The opening, which may be changed before the first call.
+    fn before_calls(&mut self) -> Result<&mut Opening, Fault> {
         if !self.calls.is_empty() {
-            return self.note(Item::TooLate(number));
+            return Err(Fault::TooLate);
         }
-        if most < self.most as usize {
-            self.most = most as u8;
-        }
-        self.note(Item::Shortened(most))
+        self.opening.as_mut().ok_or(Fault::NotOpened)
     }
 
-    fn close(&mut self, p: Practice, number: usize) -> Result<(), AllocError> {
-        if !self.opened {
-            return self.note(Item::NotOpened(number));
-        }
-        if !self.calls.is_empty() {
-            return self.note(Item::TooLate(number));
-        }
-        let at = self.closed.len();
+    // Of several, the shortest counts.
+    fn shorten(&mut self, most: usize) -> Result<Item, Fault> {
+        let opening = self.before_calls()?;
+        opening.most = opening.most.min(u8::try_from(most).unwrap_or(u8::MAX));
+        Ok(Item::Shortened(most))
+    }
+
+    fn close(&mut self, p: Practice) -> Result<Item, Fault> {
+        self.before_calls()?;
         self.closed.push(p)?;
-        self.note(Item::Closed(at))
+        Ok(Item::Closed)
     }
 
-    fn call(&mut self, call: Planned, number: usize) -> Result<(), AllocError> {
-        if !self.opened {
-            return self.note(Item::NotOpened(number));
+    fn call(&mut self, call: Planned) -> Result<Item, Fault> {
+        if self.opening.is_none() {
+            return Err(Fault::NotOpened);
         }
-        let at = self.calls.len();
         self.calls.push(call)?;
-        self.note(Item::Called(at))
+        Ok(Item::Called)
     }
 }
 
 // The plan of a whole script.
 pub fn read_script(heap: Global, script: &[u8]) -> Result<Plan, AllocError> {
     let mut plan = Plan::new(heap);
-    let mut start = 0usize;
-    let mut number = 1usize;
-    for (at, byte) in script.iter().enumerate() {
-        if *byte == b'\n' {
-            if let Some(line) = script.get(start..at) {
-                plan.add(line, number)?;
-            }
-            start = at.saturating_add(1);
-            number = number.saturating_add(1);
+    for (line, number) in script.split(|byte| *byte == b'\n').zip(1..) {
+        match plan.add(heap, line) {
+            Ok(()) => {}
+            Err(Fault::NoMemory(error)) => return Err(error),
+            Err(fault) => plan.items.push(Item::Faulty(number, fault))?,
         }
-    }
-    if let Some(line) = script.get(start..) {
-        plan.add(line, number)?;
     }
     Ok(plan)
 }

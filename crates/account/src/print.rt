@@ -1,91 +1,48 @@
-// The account in words, a line for each line of the script.
-use crate::pile::Closing;
-use crate::plan::Item;
+// What was answered, in words: a line of the account each, through a text, as reports have their lines.
+use allotment::bytes::seat_of;
 use round::script::Answer;
-use rules::words::{Practice, Refusal};
+use rules::words::Refusal;
 use texts::text::Text;
 
-fn put_message(text: &mut Text, number: usize, message: &[u8]) {
-    text.put(b"line ");
-    text.put_number(number);
-    text.put(b": ");
-    text.put(message);
-    text.push(b'\n');
-}
-
-fn put_accepted(text: &mut Text, answer: Result<(), Refusal>, word: &[u8]) {
+// What `put` makes of the value answered, or the refusal.
+fn answered<T, F: FnOnce(&mut Text, T)>(answer: Result<T, Refusal>, put: F) -> Text
+    requires { F.IsAlwaysCallable put }
+{
+    let mut text = Text::new();
     match answer {
-        Ok(()) => {
-            text.put(word);
+        Ok(value) => {
+            put(&mut text, value);
             text.push(b'\n');
         }
         Err(refusal) => text.put_refusal(refusal),
     }
+    text
+}
+
+// A call that answers nothing but that it was accepted, in a word.
+pub fn accepted(answer: Result<(), Refusal>, word: &[u8]) -> Text {
+    answered(answer, |text, ()| text.put(word))
 }
 
 // A number and the seats of a placement.
-fn put_seats(text: &mut Text, word: &[u8], answer: Result<u16, Refusal>, seats: &[u8]) {
-    match answer {
-        Ok(number) => {
-            text.put(word);
-            text.put_number(number as usize);
-            for byte in seats {
-                text.push(b' ');
-                if *byte == 255 {
-                    text.push(b'-');
-                } else {
-                    text.put_number(*byte as usize);
-                }
-            }
-            text.push(b'\n');
+fn placement(answer: Result<u16, Refusal>, word: &[u8], seats: &[u8]) -> Text {
+    answered(answer, |text, number| {
+        text.put(word);
+        text.put_number(usize::from(number));
+        for byte in seats {
+            text.push(b' ');
+            text.put_seat(seat_of(*byte));
         }
-        Err(refusal) => text.put_refusal(refusal),
-    }
-}
-
-fn put_seat(text: &mut Text, answer: Result<Option<Practice>, Refusal>) {
-    match answer {
-        Ok(seat) => {
-            text.put_seat(seat);
-            text.push(b'\n');
-        }
-        Err(refusal) => text.put_refusal(refusal),
-    }
-}
-
-fn put_cut(text: &mut Text, most: usize) {
-    text.put(b"lists are cut to ");
-    text.put_number(most);
-    text.push(b'\n');
+    })
 }
 
 // The answer of a call; `seats` is its room.
-pub fn put_answer(text: &mut Text, answer: Answer, seats: &[u8]) {
+pub fn call_answered(answer: Answer, seats: &[u8]) -> Text {
     match answer {
-        Answer::Entered(answer) => put_accepted(text, answer, b"entered"),
-        Answer::Placed(answer) => put_accepted(text, answer, b"places set"),
-        Answer::Allotted(answer) => put_seats(text, b"seated ", answer, seats),
-        Answer::Seated(answer) => put_seat(text, answer),
-        Answer::Challenged(answer) => put_seats(text, b"majority ", answer, seats),
-    }
-}
-
-// A line of the script that is no call on the round.
-pub fn put_item(text: &mut Text, item: Item, opened: Closing, closings: &[Closing]) {
-    match item {
-        Item::Opened => put_accepted(text, opened, b"opened"),
-        Item::Shortened(most) => put_cut(text, most),
-        Item::Closed(at) => match closings.get(at) {
-            Some(answer) => put_accepted(text, *answer, b"closed"),
-            None => {}
-        },
-        Item::NoCall(number) => put_message(text, number, b"this is no call"),
-        Item::NotOpened(number) => put_message(
-            text,
-            number,
-            b"the round is not open yet: open P T comes first",
-        ),
-        Item::TooLate(number) => put_message(text, number, b"an opening line in the wrong place"),
-        Item::Called(_) => {}
+        Answer::Entered(answer) => accepted(answer, b"entered"),
+        Answer::Placed(answer) => accepted(answer, b"places set"),
+        Answer::Allotted(answer) => placement(answer, b"seated ", seats),
+        Answer::Seated(answer) => answered(answer, |text, seat| text.put_seat(seat)),
+        Answer::Challenged(answer) => placement(answer, b"majority ", seats),
     }
 }
