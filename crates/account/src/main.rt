@@ -85,6 +85,7 @@ fn print_account(rt: &HostRuntime, plan: &Plan, ran: &Ran<'_>) -> anyhow::Result
     Ok(())
 }
 
+// The input is read here, since there is no heap below the programs.
 fn run(rt: &HostRuntime) -> anyhow::Result<()> {
     let heap = rt.alloc();
     let mut script = Vec::new(heap);

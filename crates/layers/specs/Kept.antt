@@ -1,4 +1,4 @@
--- What a layer shows is lawful where what it stands on is, and its lists are no longer. The proofs stand here, since the ghost members cite them and may cite no file of proofs/.
+-- What a layer shows is lawful where what it stands on is, and its lists are no longer. The proofs stand here, since the ghost members cite them and may cite no file of this crate's own proofs/.
 use Rattle.std.specs.Prelude.{◌≡◌, ℕ, zero, suc, ◌<◌, ◌≤◌, min, Bool, true, false, cond, not, List, [], ◌∷◌, map, length, take, filter, ◌≢◌, slice_index_or, refl}
 use Rattle.std.proofs.Common.{sym, arith, length-take, get_or-take}
 use Rattle.std.proofs.lemmas.List.{length-map}

@@ -34,7 +34,7 @@ impl<R: Roll> Roll for Short<R> {
 
     ghost lawful = { λ s. lawful_shortened s.most (R.Roll.entries s.below) (R.Roll.lawful s.below) };
 
-    // These three are handed down, and so are `places` and what `enter` takes, as in Closed.
+    // These three are handed down, and so are `is_open`, `places` and what `enter` takes, as in Closed.
     fn trainees(&self) -> u16 {
         self.below.trainees()
     }

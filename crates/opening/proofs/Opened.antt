@@ -1,10 +1,10 @@
 -- What the check of an opening lets through, and a register just opened.
-use Rattle.std.proofs.Common.{◌≡◌, ℕ, ◌<◌, ◌≤◌, ltb, leb, true, false, ◌⊎◌, List, [], length, replicate, Some, None, Option, refl, inl, inr, arith}
+use Rattle.std.proofs.Common.{◌≡◌, ℕ, ◌<◌, ◌≤◌, leb, List, [], length, replicate, Some, None, Option, refl, arith}
 use lib.ListN.{length-replicate}
 use Rattle.std.proofs.lemmas.List.{get_or-replicate}
-use Rattle.std.proofs.lemmas.Bool.{leb-true, lt-ltb, le-ltb, cases_lt}
+use Rattle.std.proofs.lemmas.Bool.{leb-true}
 use Rattle.rules.specs.declared.words.Refusal.{Refusal}
-use Rattle.rules.specs.Meaning.{Entries, Meaning, Lawful, is_open, nobody, practices, trainees}
+use Rattle.rules.specs.Meaning.{Meaning, Lawful, nobody, practices, trainees}
 use Rattle.rules.proofs.Checking.{passed}
 use Rattle.rules.proofs.Lawfully.{strict_none}
 use Rattle.opening.specs.Opening.{opening_refusal, opened, plain_rules}
@@ -49,11 +49,3 @@ fresh P T needed lent =
     however P T needed lent Fresh
     (λ r. record { lawful = lawful_opened P T r.few_practices r.few_trainees; empty = simp length-replicate; plain = simp length-replicate })
     (record { lawful = lawful_opened 0 0 (omega arith) (omega arith); empty = refl; plain = refl })
-
--- each practice that there is, is open
-pub all_open : (e : Entries) (p : ℕ) → ltb p (practices e) ≡ is_open (record { entries = e; rules = plain_rules (practices e) }) p
-all_open e p = by (cases_lt p (practices e))
-  where
-    by : (p < practices e) ⊎ (practices e ≤ p) → ltb p (practices e) ≡ is_open (record { entries = e; rules = plain_rules (practices e) }) p
-    by (inl l) = rw (lt-ltb p (practices e) l, get_or-replicate (practices e) p true false l)
-    by (inr l) = rw (le-ltb p (practices e) l)

@@ -24,7 +24,8 @@ pub(crate) fn answer_text(answer: Result<Text, Refusal>) -> Text
     answer.unwrap_or_else(refusal_text)
 }
 
-// Asks for the text only where the buffer has at least 4,096 bytes.
+// Asks for the text only where the buffer has at least 4,096 bytes. That an answer is at most 4,096 stands in three contracts: it speaks
+// of answer and buffer together, which no type holds.
 pub(crate) fn hand_over<F: FnOnce(&[u8]) -> Text>(
     text_of: F,
     sheet: &[u8],

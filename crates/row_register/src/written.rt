@@ -14,7 +14,7 @@ fn number_at(list: &[Practice], k: usize) -> u16
     list.get(k).map_or(0, |p| p.0)
 }
 
-// The row that holds the list.
+// The row that holds the list. No From: a list of more than 12 has no row, and a From asks nothing.
 pub(crate) fn row_of(list: &[Practice]) -> Row
     requires { length list.now ≤ 12 }
     ensures { result ≡ row_of (numbers list.now) }

@@ -1,5 +1,5 @@
-use Rattle.std.proofs.Common.{◌≡◌, ◌+◌, length, get_or, replicate, ap, ◌∙◌, arith, rules, length-set}
-use Rattle.std.proofs.lemmas.List.{get_or-replicate, take_all}
+use Rattle.std.proofs.Common.{◌≡◌, ◌+◌, length, get_or, ap, ◌∙◌, arith, length-set}
+use Rattle.std.proofs.lemmas.List.{take_all}
 use Rattle.rules.specs.Meaning.{Strict}
 use Rattle.rules.specs.Questions.{numbers}
 use Rattle.rank_grid.specs.Ranks.{rank}
@@ -7,12 +7,6 @@ use Rattle.rules.proofs.Numbers.{number, length_numbers}
 use Rattle.rank_grid.proofs.Ranking.{rank_write}
 use Rattle.std.proofs.lemmas.List.FromFn.{fill_by_all}
 use Rattle.rank_grid.proofs.runs.write_ranks.Goals as goal
-
-pub loop-i-init : goal.loop-i-init
-loop-i-init c p l =
-    let n = length c.args.run.now in
-    let z : c.fill.new.self ≡ replicate n 0 = c.fill.ensures.after (search rules) in
-    rw z (get_or-replicate n p 0 0 (omega (arith, c.fill.ensures.len)))
 
 pub bounds-run-p : goal.bounds-run-p
 bounds-run-p c =
