@@ -1,13 +1,13 @@
 // What a line of a script says.
-use crate::calls::Planned;
+use crate::calls::{Kept, Planned};
 use crate::faults::Fault;
 use crate::pile::Opening;
-use crate::words::{number, words};
+use crate::words::{first_words, keep, number};
 use rules::words::{Practice, Trainee};
 use std::alloc::Global;
 
 /// A line that is not blank: how the round is opened, or a call on it.
-#[derive(Drop)]
+#[derive(Clone, Copy)]
 pub enum Line {
     Open(Opening),
     Short(usize),
@@ -26,9 +26,9 @@ fn seat_byte(word: &[u8]) -> Result<u8, Fault> {
     }
 }
 
-// What the line says; a blank one says nothing.
-pub fn read(heap: Global, line: &[u8]) -> Result<Option<Line>, Fault> {
-    let words = words(heap, line)?;
+// What the line says; a blank one says nothing. Lists and offered placements go into `kept`.
+pub fn read(heap: Global, line: &[u8], kept: &mut Kept) -> Result<Option<Line>, Fault> {
+    let words = first_words(heap, line)?;
     let line = match words.as_slice() {
         [] => return Ok(None),
         [b"open", practices, trainees] => Line::Open(Opening {
@@ -38,13 +38,15 @@ pub fn read(heap: Global, line: &[u8]) -> Result<Option<Line>, Fault> {
         }),
         [b"short", most] => Line::Short(number(most)?),
         [b"close", p] => Line::Close(Practice(number(p)?)),
-        [b"enter", t, list @ ..] => {
+        [b"enter", t, ..] => {
             let t = Trainee(number(t)?);
-            let list = list
-                .iter()
-                .map(|word| number(word).map(Practice))
-                .try_collect(heap)?;
-            Line::Call(Planned::Enter(t, list))
+            let length = keep(
+                line,
+                2,
+                |word| number(word).map(Practice),
+                &mut kept.practices,
+            )?;
+            Line::Call(Planned::Enter(t, length))
         }
         [b"places", p, n] => Line::Call(Planned::Places(Practice(number(p)?), number(n)?)),
         // as many slots as any round can want
@@ -53,12 +55,10 @@ pub fn read(heap: Global, line: &[u8]) -> Result<Option<Line>, Fault> {
             Line::Call(Planned::Allot(number(waiting)?, number(moves)?))
         }
         [b"seat", t] => Line::Call(Planned::Seat(Trainee(number(t)?))),
-        [b"challenge", offered @ ..] => Line::Call(Planned::Challenge(
-            offered
-                .iter()
-                .map(|word| seat_byte(word))
-                .try_collect(heap)?,
-        )),
+        [b"challenge", ..] => {
+            let length = keep(line, 1, |word| seat_byte(word), &mut kept.offered)?;
+            Line::Call(Planned::Challenge(length))
+        }
         _ => return Err(Fault::NoCall),
     };
     Ok(Some(line))

@@ -11,11 +11,12 @@ mod words;
 
 use crate::pile::run_pile;
 use crate::plan::{Item, Plan, read_script};
-use crate::print::{accepted, call_answered};
+use crate::print::{put_accepted, put_call_answered, put_cut};
 use round::rooms::{needed, room_for};
 use round::script::{Answer, Call};
 use rules::words::Refusal;
 use std::io::Read;
+use texts::text::Text;
 
 /// A script that was made: its calls, and what they and the opening lines answered.
 #[derive(Drop)]
@@ -33,11 +34,12 @@ fn make<'a>(rt: &HostRuntime, plan: &'a Plan) -> anyhow::Result<Ran<'a>> {
     // a script that opens no round has no calls either
     let opening = plan.opening.unwrap_or_default();
     let trainees = usize::from(opening.trainees_taken());
-    let script: Vec<Call<'a>> = plan
-        .calls
-        .iter()
-        .map(|call| call.on(trainees))
-        .collect(heap)?;
+    let mut practices = plan.kept.practices.as_slice();
+    let mut offered = plan.kept.offered.as_slice();
+    let mut script = Vec::new(heap);
+    for call in plan.calls.iter() {
+        script.push(call.on(trainees, &mut practices, &mut offered))?;
+    }
     let mut answers = vec![in heap; Answer::Entered(Ok(())); script.len()]?;
     let mut placements = vec![in heap; 255u8; needed(script.as_slice(), trainees)]?;
     let closings = run_pile(
@@ -64,23 +66,25 @@ fn print_account(rt: &HostRuntime, plan: &Plan, ran: &Ran<'_>) -> anyhow::Result
     let mut answers = ran.script.iter().zip(ran.answers.iter());
     let mut placements = ran.placements.as_slice();
     for item in plan.items.iter() {
+        let mut text = Text::new();
         match *item {
-            Item::Opened => rt.write_all(accepted(ran.opened, b"opened").as_bytes())?,
-            Item::Shortened(most) => println!(rt; "lists are cut to {most}")?,
+            Item::Opened => put_accepted(&mut text, ran.opened, b"opened"),
+            Item::Shortened(most) => put_cut(&mut text, most),
             Item::Closed => {
                 if let Some(closing) = closings.next() {
-                    rt.write_all(accepted(*closing, b"closed").as_bytes())?;
+                    put_accepted(&mut text, *closing, b"closed");
                 }
             }
             Item::Called => {
                 if let Some((call, answer)) = answers.next() {
                     let room = room_for(*call, ran.trainees);
                     let seats = placements.split_off(..room).unwrap_or(&[]);
-                    rt.write_all(call_answered(*answer, seats).as_bytes())?;
+                    put_call_answered(&mut text, *answer, seats);
                 }
             }
-            Item::Faulty(number, fault) => println!(rt; "line {number}: {fault}")?,
+            Item::Faulty(fault, number) => println!(rt; "line {number}: {fault}")?,
         }
+        rt.write_all(text.as_bytes())?;
     }
     Ok(())
 }

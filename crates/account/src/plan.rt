@@ -1,5 +1,5 @@
 // The lines of a script in their order, and what they come to: an opening, calls, messages.
-use crate::calls::Planned;
+use crate::calls::{Kept, Planned};
 use crate::faults::Fault;
 use crate::lines::{Line, read};
 use crate::pile::Opening;
@@ -14,7 +14,7 @@ pub enum Item {
     Closed,
     Called,
     // with the line's number
-    Faulty(usize, Fault),
+    Faulty(Fault, usize),
 }
 
 /// A script: its lines as items, how the round is opened, the practices to be closed, and the calls.
@@ -24,6 +24,7 @@ pub struct Plan {
     pub opening: Option<Opening>,
     pub closed: Vec<Practice>,
     pub calls: Vec<Planned>,
+    pub kept: Kept,
 }
 
 impl Plan {
@@ -33,12 +34,16 @@ impl Plan {
             opening: None,
             closed: Vec::new(heap),
             calls: Vec::new(heap),
+            kept: Kept {
+                practices: Vec::new(heap),
+                offered: Vec::new(heap),
+            },
         }
     }
 
     // One line more.
     fn add(&mut self, heap: Global, line: &[u8]) -> Result<(), Fault> {
-        let Some(line) = read(heap, line)? else {
+        let Some(line) = read(heap, line, &mut self.kept)? else {
             return Ok(());
         };
         let item = match line {
@@ -82,6 +87,7 @@ impl Plan {
 
     fn call(&mut self, call: Planned) -> Result<Item, Fault> {
         if self.opening.is_none() {
+            self.kept.forget(call);
             return Err(Fault::NotOpened);
         }
         self.calls.push(call)?;
@@ -96,7 +102,7 @@ pub fn read_script(heap: Global, script: &[u8]) -> Result<Plan, AllocError> {
         match plan.add(heap, line) {
             Ok(()) => {}
             Err(Fault::NoMemory(error)) => return Err(error),
-            Err(fault) => plan.items.push(Item::Faulty(number, fault))?,
+            Err(fault) => plan.items.push(Item::Faulty(fault, number))?,
         }
     }
     Ok(plan)

@@ -38,3 +38,15 @@ module _ (counts places : ℕ → ℕ) (ps : List Practice) (s : Seat) where
           stored (find (λ (p : Practice). not (eqb (get_or ps 0 no_practice).0 p.0) && ltb (counts p.0) (places p.0)) ps) ≡ fallback_on counts places (numbers ps)
       fallen [] l = absurd (omega arith)
       fallen (x ∷ xs) l = found_earliest (λ q. not (eqb x.0 q) && ltb (counts q) (places q)) (x ∷ xs)
+
+  pub weighs_unlisted : length ps ≡ 0 → 0 ≡ by_firsts counts places (numbers ps) s
+  weighs_unlisted e = go ps e
+    where
+      go : (ps : List Practice) → length ps ≡ 0 → 0 ≡ by_firsts counts places (numbers ps) s
+      go [] e = refl
+      go (x ∷ xs) e = absurd (omega arith)
+
+  pub weighs_nothing :
+      0 < length ps → sits s (get_or ps 0 no_practice).0 ≡ false →
+      ltb (places (get_or ps 0 no_practice).0) (counts (get_or ps 0 no_practice).0) ≡ false → 0 ≡ by_firsts counts places (numbers ps) s
+  weighs_nothing l k m = sym (listed l ∙ cond-false _ _ _ k ∙ cond-false _ _ _ m)

@@ -13,6 +13,7 @@ use Rattle.rules.specs.Meaning.{trainees, list_of}
 use Rattle.rules.proofs.Numbers.{length_numbers}
 use Rattle.voting.specs.Totals.{total, one}
 use Rattle.voting.specs.Placements.{Seat, stored, seating, placed, seated}
+use Rattle.voting.specs.Local.{first_choice}
 use Rattle.voting.specs.Weights.{weight}
 use Rattle.voting.proofs.Totals.{total_same}
 use Rattle.allotment.specs.declared.lists.Lists.{Lists}
@@ -20,6 +21,10 @@ use Rattle.allotment.specs.Copies.{entries}
 use Rattle.allotment.specs.Tabled.{by_lists, Beside, beside, weight_at, content_at, WhetherAllWeigh}
 use Rattle.allotment.proofs.Copying.{no_list, list_in, trainees_in, lawful_in}
 use Rattle.allotment.proofs.Writing.{front}
+
+-- one number more
+pub total_more : (n : ℕ) (f : ℕ → ℕ) (x y : ℕ) → x ≡ total n f → y ≡ f n → x + y ≡ total (n + 1) f
+total_more n f x y e k = rw add-one (ap₂ (λ a b. a + b) e k)
 
 -- a sum over a list, as a total over its positions
 sum_front : {X : Type 0} (f : X → ℕ) (xs : List X) (d : X) (n : ℕ) → n ≤ length xs → sum_by f (take n xs) ≡ total n (λ t. f (get_or xs t d))
@@ -30,14 +35,14 @@ sum_front f xs d (suc n) l =
 pub sum_total : {X : Type 0} (f : X → ℕ) (xs : List X) (d : X) → sum_by f xs ≡ total (length xs) (λ t. f (get_or xs t d))
 sum_total f xs d = ap (sum_by f) (sym (take_all (length xs) xs (omega arith))) ∙ sum_front f xs d (length xs) (omega arith)
 
-placed_some : (o : Option Practice) → one (is_some o) ≡ one (placed (stored o))
+pub placed_some : (o : Option Practice) → placed (stored o) ≡ is_some o
 placed_some None = refl
 placed_some (Some p) = refl
 
 pub seated_counted : (seats : List (Option Practice)) → count_by is_some seats ≡ seated (length seats) (seating seats)
 seated_counted seats =
     sum_total (λ o. one (is_some o)) seats None ∙
-    total_same (length seats) (λ t. one (is_some (get_or seats t None))) (λ t. one (placed (seating seats t))) (λ t l. placed_some (get_or seats t None))
+    total_same (length seats) (λ t. one (is_some (get_or seats t None))) (λ t. one (placed (seating seats t))) (λ t l. ap one (sym (placed_some (get_or seats t None))))
 
 pub seated_front : (n : ℕ) (seats : List (Option Practice)) → n ≤ length seats → count_by is_some (take n seats) ≡ seated n (seating seats)
 seated_front n seats l =
@@ -125,3 +130,14 @@ module _ (L : Lists) (seats : List (Option Practice)) (enough : length L.lists.i
         let l : r.0 < trainees (entries L) = omega (arith, r.1, besides) in
         let n = none_weigh _ _ (sym (content r.0 l) ∙ r.2) in
         (r.0, l, n.0, n.1)
+
+-- a first choice there is exactly where there is a list
+pub some_first : (list : List ℕ) (o : Option Practice) → stored o ≡ first_choice list → is_some o ≡ true → 0 < length list
+some_first [] None e k = let z : ◌≡◌ {A = ℕ} 0 1 = cc in absurd (omega arith)
+some_first [] (Some p) e k = let z : ◌≡◌ {A = ℕ} 0 1 = cc in absurd (omega arith)
+some_first (x ∷ xs) o e k = omega arith
+
+pub no_first : (list : List ℕ) (o : Option Practice) → stored o ≡ first_choice list → is_some o ≡ false → 0 < length list → ⊥
+no_first [] o e k l = omega arith
+no_first (x ∷ xs) None e k l = let z : ◌≡◌ {A = ℕ} 0 1 = cc in omega arith
+no_first (x ∷ xs) (Some p) e k l = let z : ◌≡◌ {A = ℕ} 0 1 = cc in omega arith

@@ -15,7 +15,7 @@ use Rattle.assignment.specs.declared.row.Row.{Row}
 use Rattle.assignment.specs.declared.table.NotTaken.{NotTaken}
 use Rattle.assignment.specs.declared.table.Table.{Table}
 use Rattle.assignment.specs.Rows.{no_choice, row_of, list, size, weight_of, weigh, GoodRow}
-use Rattle.assignment.proofs.Lists.{position_get, strict_good}
+use Rattle.assignment.proofs.Lists.{row_choices, position_get, strict_good}
 use Rattle.assignment.specs.Tables.{entries, weights, Takes, Extended, Added}
 use Rattle.allotment.specs.Tabled.{choice_by, Weighed, Filled, Tabled}
 use Rattle.allotment.specs.Vectors.{no_practice}
@@ -23,7 +23,7 @@ use Rattle.allotment.specs.Vectors.{no_practice}
 -- the row of a list, with what each of its choices and no seat weigh
 module _ (w : Seat → ℕ) (ps : List Practice) (none : ℕ) where
   list_made : list (row_of (map (choice_by w) ps) none) ≡ numbers ps
-  list_made = go ps
+  list_made = ap (map (λ (c : Choice). c.practice.0)) (row_choices (map (choice_by w) ps) none) ∙ go ps
     where
       go : (ps : List Practice) → map (λ (c : Choice). c.practice.0) (map (choice_by w) ps) ≡ numbers ps
       go [] = refl
@@ -34,10 +34,12 @@ module _ (w : Seat → ℕ) (ps : List Practice) (none : ℕ) where
   weighed_row h e m = record { same = list_made; exact = exact; modest = modest; least = m }
     where
       at : (i : ℕ) → i < length ps → weight_of (row_of (map (choice_by w) ps) none) i ≡ w (Some (get_or ps i no_practice).0)
-      at i l = ap (λ (c : Choice). c.weight) (get_or-map (choice_by w) ps i no_practice no_choice l)
+      at i l =
+          ap (λ (cs : List Choice). (get_or cs i no_choice).weight) (row_choices (map (choice_by w) ps) none) ∙
+          ap (λ (c : Choice). c.weight) (get_or-map (choice_by w) ps i no_practice no_choice l)
 
       modest : (i : ℕ) → i < size (row_of (map (choice_by w) ps) none) → weight_of (row_of (map (choice_by w) ps) none) i ≤ 2 ^ 30
-      modest i l = let k : i < length ps = omega (arith, length-map ps (choice_by w)) in omega (arith, at i k, h i k)
+      modest i l = let k : i < length ps = omega (arith, ap length (row_choices (map (choice_by w) ps) none), length-map ps (choice_by w)) in omega (arith, at i k, h i k)
 
       exact : (s : Seat) → Allowed (numbers ps) s → weigh (row_of (map (choice_by w) ps) none) s ≡ w s
       exact None a = e

@@ -11,10 +11,11 @@ ghost use Rattle.allotment.specs.Copies.{entries};
 
 use crate::by_ballots::ByBallots;
 use crate::bytes::write_seats;
-use crate::filling::table_of;
+use crate::filling::hold;
 use crate::lists::Lists;
 use crate::reading::whole_weight;
 use assignment::place::place;
+use assignment::table::Table;
 use rules::words::{Move, Practice, Trainee};
 
 // Writes the rival, and says by how many it wins.
@@ -37,6 +38,7 @@ fn write_rival(
 }
 
 // The strongest rival, found with slots of its own.
+#[inline(never)]
 pub(crate) fn challenge_in(lists: &Lists, offered: &[u8], rival: &mut [u8]) -> u16
     requires fits { Feasible (entries lists.now) (offered_by offered.now) }
     requires room { trainees (entries lists.now) ≤ length rival.old }
@@ -44,7 +46,8 @@ pub(crate) fn challenge_in(lists: &Lists, offered: &[u8], rival: &mut [u8]) -> u
 {
     let mut waiting = [Trainee::default(); 400];
     let mut moves = [Move::default(); 400];
-    let table = table_of(lists, &ByBallots { offered });
+    let mut table = Table::vacant();
+    hold(lists, &ByBallots { offered }, &mut table);
     let placed = place(&table, &mut waiting, &mut moves).unwrap();
     write_rival(lists, offered, &placed.seats, rival)
 }

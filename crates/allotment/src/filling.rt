@@ -54,11 +54,10 @@ fn fill<W: Weigh>(lists: &Lists, weighing: &W, table: &mut Table)
     }
 }
 
-// The table of a roll that was read, with these weights.
-pub(crate) fn table_of<W: Weigh>(lists: &Lists, weighing: &W) -> Table
-    ensures { Tabled (entries lists.now) (by_lists (entries lists.now) (W.Weigh.weighs weighing.now)) result }
+// The table comes to hold a roll that was read, with these weights: where it lies, since a table is too large to be handed back.
+pub(crate) fn hold<W: Weigh>(lists: &Lists, weighing: &W, table: &mut Table)
+    ensures { Tabled (entries lists.now) (by_lists (entries lists.now) (W.Weigh.weighs weighing.now)) table.new }
 {
-    let mut table = Table::new(&lists.places).unwrap();
-    fill(lists, weighing, &mut table);
-    table
+    let _ = table.open(&lists.places);
+    fill(lists, weighing, table);
 }

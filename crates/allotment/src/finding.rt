@@ -8,11 +8,12 @@ ghost use Rattle.allotment.specs.Copies.{entries};
 ghost use Rattle.allotment.specs.Weights.{allot_weights, Holds};
 
 use crate::by_firsts::ByFirsts;
-use crate::filling::table_of;
+use crate::filling::hold;
 use crate::found::Found;
 use crate::lists::Lists;
 use crate::reading::{all_content, count_seated};
 use assignment::place::place;
+use assignment::table::Table;
 use rules::words::{Layer, Move, Practice, Reason, Refusal, Trainee};
 
 // What the heaviest placement decides.
@@ -34,6 +35,7 @@ fn decide(
 }
 
 // A fullest unbeaten placement for a roll that was read, or the refusal that there is none.
+#[inline(never)]
 pub(crate) fn find_in(
     lists: &Lists,
     waiting: &mut [Trainee],
@@ -43,7 +45,8 @@ pub(crate) fn find_in(
     ensures slots { enough (entries lists.now) (length waiting.old) (length moves.old) ≡ false → (waiting.new ≡ waiting.old) × (moves.new ≡ moves.old) }
 {
     let weighing = ByFirsts::of(lists);
-    let table = table_of(lists, &weighing);
+    let mut table = Table::vacant();
+    hold(lists, &weighing, &mut table);
     let placed = place(&table, waiting, moves)?;
     decide(lists, &weighing, placed.seats)
 }

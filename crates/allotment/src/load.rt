@@ -43,6 +43,7 @@ fn lists_in<R: Roll>(roll: &R) -> ArrayVec<ArrayVec<Practice, 12>, 400>
 }
 
 // The whole roll.
+#[inline(never)]
 pub(crate) fn read<R: Roll>(roll: &R) -> Lists
     ensures { entries result ≡ R.Roll.entries roll.now }
 {

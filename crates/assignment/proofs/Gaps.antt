@@ -79,3 +79,10 @@ module _ (T : Table) (S : State) (t : ℕ) (c : Choice) (h : IsChoice T t c) whe
 
   pub tight_gap : Tight T S t (Some c.practice.0) → c.weight ≡ value S t + price S c.practice.0
   tight_gap b = sym weighs ∙ b.exact
+
+-- who can spare so much can spare less
+pub spare_less : (T : Table) (S : State) (t : ℕ) (V : List Bool) (d e : ℕ) → e ≤ d → Spare T S V t d → Spare T S V t e
+spare_less T S t V d e l h s a out = omega (arith, h s a out)
+
+pub spare_choices_less : (T : Table) (S : State) (V : List Bool) (t d e i : ℕ) → e ≤ d → SpareChoices T S V t d i → SpareChoices T S V t e i
+spare_choices_less T S V t d e i l h j k out = omega (arith, h j k out)

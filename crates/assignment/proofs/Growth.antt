@@ -30,3 +30,7 @@ reached_grown T S R R' t g (inr (p, s, y)) = inr (p, s, g.still p y)
 -- what holds of one table and state holds of the same
 pub along : (P : Table → State → Type 0) {T T' : Table} {S S' : State} → T' ≡ T → S' ≡ S → P T' S' → P T S
 along P {T} {T'} {S} {S'} t s h = subst (λ A. P A S) t (subst (λ B. P T' B) s h)
+
+-- a search that has not gone on
+pub grown_refl : (T : Table) (S : State) (R : Progress) → Grown T S R R
+grown_refl T S R = record { still = λ p m. m; waits = λ t w. w; fresh = λ t l a. inl a; fair = omega arith }

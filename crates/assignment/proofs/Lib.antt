@@ -13,3 +13,4 @@ pub mod Truths
 pub mod Growth
 pub mod Notes
 pub mod Searches
+pub mod Slots

@@ -1,6 +1,7 @@
 -- The choices of a row, and the list that they are.
-use Rattle.std.proofs.Common.{◌≡◌, ℕ, zero, suc, ◌^◌, ◌<◌, ◌≤◌, Bool, true, false, eqb, ◌==◌, List, [], ◌∷◌, length, get_or, take, Some, None, sym, refl, ap, ◌∙◌, subst, ⊎_elim, arith}
+use Rattle.std.proofs.Common.{◌≡◌, ℕ, zero, suc, ◌^◌, ◌<◌, ◌≤◌, Bool, true, false, eqb, ◌==◌, List, [], ◌∷◌, ◌++◌, length, get_or, take, Some, None, sym, refl, ap, ◌∙◌, subst, ⊎_elim, arith}
 use Rattle.std.proofs.lemmas.List.{get_or-map, get_or-take, length-map, length-take-le}
+use Rattle.std.proofs.Math.Seq.{take-length, take-append_seam}
 use Rattle.std.proofs.lemmas.Bool.{cases_Bool, eq-eqb, ne_eqb, eqb-true, both_ways}
 use Rattle.std.specs.List.{list_any}
 use Rattle.std.proofs.lemmas.List.Folds.{list_any_at}
@@ -10,7 +11,7 @@ use Rattle.voting.specs.Placements.{Seat, Allowed}
 use Rattle.voting.proofs.Ranks.{on_list, list_on}
 use Rattle.assignment.specs.declared.row.Choice.{Choice}
 use Rattle.assignment.specs.declared.row.Row.{Row}
-use Rattle.assignment.specs.Rows.{no_choice, size, choice_of, weight_of, list, weigh, GoodRow}
+use Rattle.assignment.specs.Rows.{no_choice, choices_in, row_of, size, choice_of, weight_of, list, weigh, GoodRow}
 
 pub position_at :
     (l : List ℕ) (i : ℕ) → i < length l → ((j : ℕ) → j < i → get_or l j 0 ≡ get_or l i 0 → ⊥) → position l (get_or l i 0) ≡ i
@@ -30,12 +31,16 @@ position_get (x ∷ xs) p h = go (eqb x p) refl (position_get xs p)
         let k : position (x ∷ xs) p ≡ suc (position xs p) = rw e in
         rw e (ih (omega (arith, k, h)))
 
+-- the row of these choices counts them all
+pub row_choices : (cs : List Choice) (none : ℕ) → choices_in (row_of cs none) ≡ cs
+row_choices cs none = take-length cs
+
 module _ (r : Row) where
   pub list_length : length (list r) ≡ size r
-  list_length = length-map r.choices.items (λ (c : Choice). c.practice.0)
+  list_length = length-map (choices_in r) (λ (c : Choice). c.practice.0)
 
   pub list_at : (i : ℕ) → i < size r → get_or (list r) i 0 ≡ choice_of r i
-  list_at i h = get_or-map (λ (c : Choice). c.practice.0) r.choices.items i no_choice 0 h
+  list_at i h = get_or-map (λ (c : Choice). c.practice.0) (choices_in r) i no_choice 0 h
 
   -- a row whose list obeys the law of a roll, with weights that are not too great
   pub strict_good : (m : ℕ) → Strict m (list r) → ((i : ℕ) → i < size r → weight_of r i ≤ 2 ^ 30) → r.none ≤ 2 ^ 30 → GoodRow m r
@@ -77,6 +82,10 @@ module _ (m : ℕ) (r : Row) (g : GoodRow m r) where
       let i = allowed_choice p a in
       subst (λ q. weigh r (Some q) ≤ 2 ^ 30) i.2 (omega (arith, choice_weight i.0 i.1, g.modest i.0 i.1))
 
+-- choices in front of the array of a row
+pub copied : (cs rest : List Choice) → take (length cs) (cs ++ rest) ≡ cs
+copied cs rest = take-append_seam cs rest
+
 -- whether a practice is among the choices
 chosen_at : (cs : List Choice) (p : ℕ) → list_any (λ (c : Choice). c.practice.0 == p) cs ≡ true → (j : ℕ) × (j < length cs) × ((get_or cs j no_choice).practice.0 ≡ p)
 chosen_at [] p e = absurd (both_ways false refl e)
@@ -88,7 +97,7 @@ chosen_at (c ∷ cs) p e =
     (cases_Bool (c.practice.0 == p))
 
 -- whether the i-th choice, p, stands earlier on the row too, as a slice of its choices says
-module _ (r : Row) (i p : ℕ) (cs : List Choice) (l : i < size r) (here : p ≡ choice_of r i) (same : cs ≡ r.choices.items) where
+module _ (r : Row) (i p : ℕ) (cs : List Choice) (l : i < size r) (here : p ≡ choice_of r i) (same : cs ≡ choices_in r) where
   earlier : (j : ℕ) → j < i → (get_or (take i cs) j no_choice).practice.0 ≡ choice_of r j
   earlier j k = ap (λ (c : Choice). c.practice.0) (get_or-take i cs j no_choice k ∙ ap (λ xs. get_or xs j no_choice) same)
 

@@ -71,3 +71,7 @@ module _ (S : State) (k p : ℕ) (old new : List Trainee) (h : Queued S k p old 
             (λ (a : t ≡ x.0). inr (omega (arith, a, i), ap (seat_of S) (a ∙ i) ∙ sits_some (seat_of S k) p on))
             (waits_push new x t (subst (λ q. Waits q t) e w));
       }
+
+-- before the first trainee
+pub queued_none : (S : State) (p : ℕ) (q : List Trainee) → Queued S 0 p q q
+queued_none S p q = record { size = omega arith; kept = λ t w. w; all = λ t l. absurd (omega arith); only = λ t w. inl w }

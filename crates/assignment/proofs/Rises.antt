@@ -109,3 +109,11 @@ module _ (T : Table) (S : State) (R : Progress) (d : ℕ) (r : Ready T S) (x : E
             modest = λ t. omega (arith, h.values t, r.sound.modest t);
           };
         }
+
+-- who sits where the search has come was reached
+pub inside_reached : (S : State) (R : Progress) (t : ℕ) → inside R.reached (seat_of S t) ≡ true → Reached S R.reached t
+inside_reached S R t h = go (seat_of S t) refl h
+  where
+    go : (s : Seat) → seat_of S t ≡ s → inside R.reached s ≡ true → Reached S R.reached t
+    go None e i = absurd (both_ways (inside R.reached None) refl i)
+    go (Some p) e i = inr (p, e, i)

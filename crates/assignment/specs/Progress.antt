@@ -3,7 +3,7 @@ use Rattle.std.specs.Prelude.{◌≡◌, ℕ, ◌<◌, ◌≤◌, slice_index_or
 use Rattle.assignment.specs.declared.row.Choice.{Choice}
 use Rattle.assignment.specs.declared.search.Search.{Search}
 use Rattle.assignment.specs.declared.table.Table.{Table}
-use Rattle.assignment.specs.Rows.{no_choice, size}
+use Rattle.assignment.specs.Rows.{no_choice, choices_in, size}
 use Rattle.assignment.specs.Searches.{Progress, progress_of, Reached}
 use Rattle.assignment.specs.States.{row}
 
@@ -22,4 +22,4 @@ pub record Comes (s : Search) (t : ℕ) : Type 0 where
 
 -- c stands on the row of t
 abbrev pub IsChoice : Table → ℕ → Choice → Type 0
-IsChoice T t c = (i : ℕ) × (i < size (row T t)) × (slice_index_or (row T t).choices.items i no_choice ≡ c)
+IsChoice T t c = (i : ℕ) × (i < size (row T t)) × (slice_index_or (choices_in (row T t)) i no_choice ≡ c)

@@ -1,5 +1,5 @@
 -- What a row says, and which rows may stand in a table.
-use Rattle.std.specs.Prelude.{ℕ, ◌^◌, ◌<◌, ◌≤◌, List, [], length, map, Some, None, ◌≢◌, slice_index, slice_index_or}
+use Rattle.std.specs.Prelude.{◌≡◌, ℕ, ◌^◌, ◌<◌, ◌≤◌, List, [], length, map, take, Some, None, Option, ◌≢◌, slice_index, slice_index_or}
 use Rattle.rules.specs.Questions.{position}
 use Rattle.voting.specs.Placements.{Seat}
 use Rattle.assignment.specs.declared.row.Choice.{Choice}
@@ -8,25 +8,34 @@ use Rattle.assignment.specs.declared.row.Row.{Row}
 abbrev pub no_choice : Choice
 no_choice = record { practice = record { 0 = 0 }; weight = 0 }
 
+-- the choices that the row counts
+abbrev pub choices_in : Row → List Choice
+choices_in r = take r.len r.choices
+
 -- the row of these choices
 abbrev pub row_of : List Choice → ℕ → Row
-row_of choices none = record { choices = record { items = choices }; none = none }
+row_of choices none = record { choices = choices; none = none; len = length choices }
+
+-- a row that says the same, where there are few choices
+abbrev pub RowOf : List Choice → ℕ → Option Row → Type 0
+RowOf choices none (Some r) = (choices_in r ≡ choices) × (r.none ≡ none)
+RowOf choices none None = 12 < length choices
 
 abbrev pub no_row : Row
 no_row = row_of [] 0
 
 abbrev pub size : Row → ℕ
-size r = length r.choices.items
+size r = length (choices_in r)
 
 abbrev pub choice_of : Row → ℕ → ℕ
-choice_of r i = (slice_index_or r.choices.items i no_choice).practice.0
+choice_of r i = (slice_index_or (choices_in r) i no_choice).practice.0
 
 abbrev pub weight_of : Row → ℕ → ℕ
-weight_of r i = (slice_index_or r.choices.items i no_choice).weight
+weight_of r i = (slice_index_or (choices_in r) i no_choice).weight
 
 -- the practices of the row's list
 abbrev pub list : Row → List ℕ
-list r = map (λ (c : Choice). c.practice.0) r.choices.items
+list r = map (λ (c : Choice). c.practice.0) (choices_in r)
 
 -- what a seat weighs by this row
 abbrev pub weigh : Row → Seat → ℕ

@@ -1,5 +1,5 @@
 -- What a table says, and when it takes a row.
-use Rattle.std.specs.Prelude.{◌≡◌, ℕ, ◌<◌, ◌≤◌, List, [], ◌∷◌, ◌++◌, map, length, Some, None, Ok, Err, Option, Result}
+use Rattle.std.specs.Prelude.{◌≡◌, ℕ, ◌<◌, ◌≤◌, Bool, true, false, List, [], ◌∷◌, ◌++◌, map, length, Some, None, Ok, Err, Option, Result}
 use Rattle.rules.specs.Meaning.{Entries, trainees, practices}
 use Rattle.voting.specs.Placements.{Seat}
 use Rattle.voting.specs.Weights.{Weighing}
@@ -19,6 +19,11 @@ weights T t s = weigh (at T.rows.items t) s
 abbrev pub Opened : List ℕ → Option Table → Type 0
 Opened places None = (length places ≤ 100) × Roomy places → ⊥
 Opened places (Some T) = (length places ≤ 100) × Roomy places × (entries T ≡ record { places = places; lists = [] })
+
+-- the same of a table that is there already: where it is not opened, it stays as it was
+abbrev pub OpenedAt : Table → List ℕ → Bool → Table → Type 0
+OpenedAt T places true T' = (length places ≤ 100) × Roomy places × (entries T' ≡ record { places = places; lists = [] })
+OpenedAt T places false T' = ((length places ≤ 100) × Roomy places → ⊥) × (T' ≡ T)
 
 -- where one more row may stand
 pub record Takes (T : Table) (r : Row) : Type 0 where

@@ -1,9 +1,9 @@
 // A table is made row by row.
-ghost use Rattle.std.specs.Prelude.{◌≡◌, ◌<◌, ◌==◌, true, false};
+ghost use Rattle.std.specs.Prelude.{◌≡◌, ◌<◌, ◌==◌, true, false, []};
 ghost use Rattle.std.specs.List.{list_any};
 ghost use Rattle.assignment.specs.Rows.{GoodRow, row_of};
 ghost use Rattle.assignment.specs.States.{trainees_in, row};
-ghost use Rattle.assignment.specs.Tables.{Opened, Added};
+ghost use Rattle.assignment.specs.Tables.{entries, Opened, OpenedAt, Added};
 
 use crate::row::{Choice, GREATEST, Row};
 use crate::table::{NotTaken, Table};
@@ -26,10 +26,11 @@ impl Row {
         if self.none > GREATEST {
             return false;
         }
-        for (i, choice) in self.choices.iter().enumerate() {
+        let choices = self.list();
+        for (i, choice) in choices.iter().enumerate() {
             if choice.practice.0 as usize >= m
                 || choice.weight > GREATEST
-                || is_chosen(&self.choices[..i], choice.practice)
+                || is_chosen(&choices[..i], choice.practice)
             {
                 return false;
             }
@@ -47,18 +48,38 @@ impl Table {
         &self.rows[t]
     }
 
+    // A table with no practices and no trainees yet.
+    pub fn vacant() -> Table
+        ensures { entries result ≡ record { places = []; lists = [] } }
+    {
+        Table {
+            places: ArrayVec::new(),
+            rows: ArrayVec::new(),
+        }
+    }
+
+    // Opens the table over practices with these places, with no trainees: whether it could. A table is large, so one is opened where it lies.
+    pub fn open(&mut self, places: &[u16]) -> bool
+        ensures { OpenedAt self.old places.now result self.new }
+    {
+        if places.len() > 100 || places.contains(&0) {
+            return false;
+        }
+        self.rows.clear();
+        self.places.clear();
+        self.places.try_extend_from_slice(places).is_ok()
+    }
+
     // A table over practices with these places, with no trainees yet.
     pub fn new(places: &[u16]) -> Option<Table>
         ensures { Opened places.now result }
     {
-        let places: ArrayVec<u16, 100> = ArrayVec::try_from(places).ok()?;
-        if places.contains(&0) {
-            return None;
+        let mut table = Table::vacant();
+        if table.open(places) {
+            Some(table)
+        } else {
+            None
         }
-        Some(Table {
-            places,
-            rows: ArrayVec::new(),
-        })
     }
 
     // Puts the row of these choices at the end, where it may stand there.
@@ -68,8 +89,7 @@ impl Table {
         if self.rows.is_full() {
             return Err(NotTaken::Full);
         }
-        let choices = ArrayVec::try_from(choices).map_err(|_| NotTaken::Unfit)?;
-        let row = Row { choices, none };
+        let row = Row::of(choices, none).ok_or(NotTaken::Unfit)?;
         if !row.is_good(self.places.len()) {
             return Err(NotTaken::Unfit);
         }

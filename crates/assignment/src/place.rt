@@ -1,5 +1,5 @@
 // Trainees are placed one after another.
-ghost use Rattle.std.specs.Prelude.{◌≡◌, ℕ, ◌+◌, ◌<◌, ◌≤◌, false, length};
+ghost use Rattle.std.specs.Prelude.{◌≡◌, ℕ, ◌+◌, ◌<◌, ◌≤◌, false, None, length};
 ghost use Rattle.voting.specs.Placements.{stored, seating};
 ghost use Rattle.worklist.specs.Records.{records};
 ghost use Rattle.assignment.specs.Placing.{enough, Best, Answer};
@@ -45,11 +45,17 @@ impl State {
         self.newcomer += 1;
     }
 
-    // The seat of each trainee.
+    // The seat of each trainee, where none has one from the newcomer on.
     fn seats(&self) -> [Option<Practice>; 400]
+        requires few { self.now.newcomer ≤ 400 }
+        requires later { (t : ℕ) → self.now.newcomer ≤ t → seat_of self.now t ≡ None }
         ensures { (t : ℕ) → seating result t ≡ seat_of self.now t }
     {
-        self.trainees.map(|trainee| trainee.seat)
+        let mut seats = [None; 400];
+        for (t, trainee) in self.trainees[..self.newcomer].iter().enumerate() {
+            seats[t] = trainee.seat;
+        }
+        seats
     }
 }
 

@@ -1,5 +1,5 @@
 // The prices go up, and the values down.
-ghost use Rattle.std.specs.Prelude.{◌≡◌, ℕ};
+ghost use Rattle.std.specs.Prelude.{◌≡◌, ℕ, ◌<◌, ◌≤◌, None};
 ghost use Rattle.voting.specs.Placements.{stored};
 ghost use Rattle.assignment.specs.Raises.{Raised, Raisable, Lowered, Lowerable, Rise};
 ghost use Rattle.assignment.specs.Searches.{inside};
@@ -31,11 +31,13 @@ fn raise_prices(practices: &mut [PracticeState; 100], reached: &[bool; 100], d: 
 
 // The value of each who was reached goes down by d.
 fn lower_values(trainees: &mut [TraineeState; 400], newcomer: usize, reached: &[bool; 100], d: u32)
-    requires { Lowerable (value_in trainees.old) newcomer (seats_in trainees.old) reached.now d }
+    requires few { newcomer < 400 }
+    requires later { (t : ℕ) → newcomer < t → seats_in trainees.old t ≡ None }
+    requires values { Lowerable (value_in trainees.old) newcomer (seats_in trainees.old) reached.now d }
     ensures values { Lowered (value_in trainees.old) (value_in trainees.new) newcomer (seats_in trainees.old) reached.now d }
     ensures seats { (t : ℕ) → seats_in trainees.new t ≡ seats_in trainees.old t }
 {
-    for (t, trainee) in trainees.iter_mut().enumerate() {
+    for (t, trainee) in trainees[..=newcomer].iter_mut().enumerate() {
         if t == newcomer || is_inside(reached, trainee.seat) {
             trainee.value -= d;
         }
@@ -46,6 +48,8 @@ impl State {
     // Prices up, values down.
     pub(crate) fn raise(&mut self, reached: &[bool; 100], d: u32)
         requires prices { Raisable (price self.old) reached.now d }
+        requires few { self.old.newcomer < 400 }
+        requires later { (t : ℕ) → self.old.newcomer ≤ t → seat_of self.old t ≡ None }
         requires values { Lowerable (value self.old) self.old.newcomer (seat_of self.old) reached.now d }
         ensures { Rise self.old self.new reached.now d }
     {

@@ -100,7 +100,7 @@ impl<'a, 's> Search<'a, 's> {
         if row.none == self.state.trainees[t].value {
             return Some(None);
         }
-        for choice in row.choices.iter() {
+        for choice in row.list() {
             if self.probe(t, *choice) {
                 return Some(Some(choice.practice));
             }

@@ -19,7 +19,7 @@ impl Search<'_, '_> {
     {
         let row = self.table.row(t);
         let mut d = most.min(self.state.trainees[t].value - row.none);
-        for choice in row.choices.iter() {
+        for choice in row.list() {
             if !self.reached[choice.practice.0 as usize] {
                 d = d.min(self.gap(t, *choice));
             }

@@ -1,12 +1,19 @@
 -- What is asked of a list that is cut.
-use Rattle.std.proofs.Common.{◌≡◌, cond, ltb, ℕ, zero, suc, ◌<◌, ◌≤◌, min, ◌⊎◌, List, [], ◌∷◌, length, take, Some, None, sym, inl, inr, ⊎_elim, arith, length-take}
+use Rattle.std.proofs.Common.{◌≡◌, cond, ltb, ℕ, zero, suc, ◌<◌, ◌≤◌, min, ◌⊎◌, List, [], ◌∷◌, length, take, Some, None, sym, ◌∙◌, inl, inr, ⊎_elim, arith, length-take, get_or-take}
 use Rattle.std.proofs.lemmas.Map.Entries.{option_filter}
 use Rattle.std.proofs.lemmas.Bool.{lt-ltb, le-ltb, cases_lt, cases_eq}
 use Rattle.rules.specs.Questions.{choice_in, position_in, position}
 use Rattle.rules.proofs.Positions.{position_here, position_later}
-use Rattle.layers.proofs.Chosen.{choice_past}
+use Rattle.layers.proofs.Chosen.{choice_at, choice_past}
 
 module _ (n : ℕ) (list : List ℕ) where
+  pub choice_within : (k : ℕ) → k < n → choice_in list k ≡ choice_in (take n list) k
+  choice_within k h = by (cases_lt k (length list))
+    where
+      by : (k < length list) ⊎ (length list ≤ k) → choice_in list k ≡ choice_in (take n list) k
+      by (inl l) = choice_at list k l ∙ sym (choice_at (take n list) k (simp length-take (omega arith)) ∙ rw (get_or-take n list k 0 h))
+      by (inr l) = choice_past list k l ∙ sym (choice_past (take n list) k (simp length-take (omega arith)))
+
   pub choice_cut : (k : ℕ) → n ≤ k → None ≡ choice_in (take n list) k
   choice_cut k h = sym (choice_past (take n list) k (simp length-take (omega arith)))
 

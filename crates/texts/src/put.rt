@@ -15,10 +15,14 @@ impl Text {
         }
     }
 
+    // A byte, where there is room.
+    #[tactic(auto, using(crate::proofs::Keeping::pushed, crate::proofs::Keeping::dropped))]
     pub fn push(&mut self, byte: u8)
         ensures { text self.new ≡ kept (text self.old ++ byte ∷ []) }
     {
-        self.put(&[byte]);
+        if !self.bytes.is_full() {
+            self.bytes.push(byte);
+        }
     }
 
     // As many bytes as fit.

@@ -1,14 +1,19 @@
 -- What the outcomes of the calls say of the records before and after.
-use Rattle.std.proofs.Common.{◌≡◌, ℕ, ◌+◌, ◌<◌, List, [], ◌∷◌, ◌++◌, length, Some, None, Ok, Option, Result, sym, refl, ap, ◌∙◌, add-one, arith}
+use Rattle.std.proofs.Common.{◌≡◌, ℕ, ◌+◌, ◌<◌, ◌≤◌, List, [], ◌∷◌, ◌++◌, length, Some, None, Ok, Err, Option, Result, sym, refl, ap, ◌∙◌, add-one, arith}
 use Rattle.std.proofs.lemmas.List.{length_push, get_or_push, take-append-le, take_all, take_more}
-use Rattle.std.proofs.lemmas.Bool.{lt-ltb}
+use Rattle.std.proofs.lemmas.Bool.{le-ltb, lt-ltb}
 use Rattle.rules.specs.declared.words.Refusal.{Refusal}
+use Rattle.rules.specs.declared.words.Reason.TheVariants.{WrongLength}
+use Rattle.rules.specs.Words.{of_round}
 use Rattle.worklist.specs.Outcomes.{add_outcome, oldest_outcome, newest_outcome}
 
 module _ {T : Type 0} where
   -- the calls, where it is known which end they come to
   pub add_free : (xs : List T) (room : ℕ) (x : T) → length xs < room → add_outcome xs room x ≡ (Ok tt, xs ++ x ∷ [])
   add_free xs room x l = rw (lt-ltb (length xs) room l)
+
+  pub add_full : (xs : List T) (room : ℕ) (x : T) → room ≤ length xs → add_outcome xs room x ≡ (Err (of_round WrongLength room), xs)
+  add_full xs room x l = rw (le-ltb (length xs) room l)
 
   pub newest_push : (xs : List T) (x : T) → newest_outcome (xs ++ x ∷ []) ≡ (Some x, xs)
   newest_push [] x = refl

@@ -3,7 +3,7 @@ use Rattle.std.proofs.Common.{◌≡◌, ℕ, ◌+◌, ◌-◌, ◌<◌, ◌≤�
 use lib.Seq.{take-set-lt}
 use Rattle.std.proofs.lemmas.List.{take-set-le, drop-set-add, drop-set-lt, set-append_left, set-append_right, take_more_set, take_more, drop_more, take-append-le, get_or_append_left, get_or-append_right, get_or-drop, get_or-take, length-take-le, take_all, drop_all, append-nil}
 use Rattle.worklist.specs.declared.WorkList.{WorkList}
-use Rattle.worklist.specs.Records.{turned, contents, records}
+use Rattle.worklist.specs.Records.{turned, contents, records, room}
 
 module _ {T : Type 0} where
   pub length_turned : (s : List T) (h : ℕ) → h ≤ length s → length (turned s h) ≡ length s
@@ -113,3 +113,6 @@ module _ {T : Type 0} where
       let h : w.head ≤ length w.slots.now = omega (arith, w.within.1) in
       let l : w.len ≤ length (turned w.slots.now w.head) = rw (length_turned w.slots.now w.head h) w.within.0 in
       length-take-le w.len (turned w.slots.now w.head) l
+
+  pub records_room : (w : WorkList T) → length (records w) ≤ room w
+  records_room w = rw (length_records w) w.within.0

@@ -12,6 +12,6 @@ pub write_rival-requires-clause-heaviest : goal.write_rival-requires-clause-heav
 write_rival-requires-clause-heaviest c =
     let e = entries c.args.lists.now in
     let M : Placement = offered_by c.args.offered.now in
-    let T : Table = c.table_of-table.result in
+    let T : Table = c.hold.new.table in
     let f : Placed = c.unwrap-placed.result in
-    heaviest_tabled e (ballot e M) T (seating f.seats) c.table_of-table.ensures (answer_ok T _ c.place.result f c.place.ensures.answer c.unwrap-placed.ensures).1.heaviest
+    heaviest_tabled e (ballot e M) T (seating f.seats) c.hold.ensures (answer_ok T _ c.place.result f c.place.ensures.answer c.unwrap-placed.ensures).1.heaviest

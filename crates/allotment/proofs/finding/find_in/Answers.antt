@@ -18,13 +18,13 @@ pub decide-requires : goal.decide-requires
 decide-requires c =
     let e : Entries = entries c.args.lists.now in
     let b : ByFirsts = c.of-weighing.result in
-    let T : Table = c.table_of-table.result in
+    let T : Table = c.hold.new.table in
     let f : Placed = c.in_ok-placed.placed in
     let M : Placement = seating f.seats in
     let w : Weighing = by_lists e (λ t list s. by_firsts (firsts_in b.demands.items) (places_in b.demands.items) list s) in
     let best : Best T f = (answer_ok T (enough T (length c.args.waiting.now) (length c.args.moves.now)) (Ok f) f c.in_ok-placed.ensures.answer refl).1 in
     record {
       holds = c.of-weighing.ensures;
-      heaviest = subst (λ x. Heaviest e x M) (holds_weights e b c.of-weighing.ensures) (heaviest_tabled e w T M c.table_of-table.ensures best.heaviest);
-      rest = λ t l. best.rest t (omega (arith, ap trainees c.table_of-table.ensures.same));
+      heaviest = subst (λ x. Heaviest e x M) (holds_weights e b c.of-weighing.ensures) (heaviest_tabled e w T M c.hold.ensures best.heaviest);
+      rest = λ t l. best.rest t (omega (arith, ap trainees c.hold.ensures.same));
     }

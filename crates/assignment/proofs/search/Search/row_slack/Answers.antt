@@ -2,7 +2,7 @@ use Rattle.std.proofs.Common.{◌≡◌, ◌+◌, true, false, length, get_or, a
 use Rattle.std.proofs.lemmas.Bool.{both_ways}
 use Rattle.assignment.specs.declared.row.Choice.{Choice}
 use Rattle.assignment.specs.declared.row.Row.{Row}
-use Rattle.assignment.specs.Rows.{no_choice, weight_of}
+use Rattle.assignment.specs.Rows.{no_choice, choices_in, weight_of}
 use Rattle.assignment.specs.Searches.{marked}
 use Rattle.assignment.specs.States.{row, choice, value, price}
 use Rattle.assignment.proofs.Gaps.{none_priced, none_lacks, choice_lacks, spare_choices}
@@ -37,7 +37,7 @@ loop-choice-preserved c =
     let t = c.args.t in
     let i = c.loop-choice.choice-index in
     let v = c.loop-choice.invariant in
-    let e = c.deref-choice-items.ensures.0 ∙ ap (λ (r : Row). r.choices.items) c.row-row.ensures in
+    let e = c.list-choice-items.ensures ∙ ap choices_in c.row-row.ensures in
     let here = ap (λ xs. get_or xs i no_choice) e in
     elim c.if-not-self-choice.branch [
       | then-not-self-choice w ↦
@@ -66,7 +66,7 @@ returns-clause-spare c =
     let T = s.table.now in
     let S = s.state.now in
     let v = c.loop-choice.invariant in
-    let e = c.deref-choice-items.ensures.0 ∙ ap (λ (r : Row). r.choices.items) c.row-row.ensures in
+    let e = c.list-choice-items.ensures ∙ ap choices_in c.row-row.ensures in
     spare_choices T S c.args.t s.ready c.requires.known s.reached c.loop-choice.d
     (omega (arith, v.most, c.min-d.ensures, ap (λ (r : Row). r.none) c.row-row.ensures, none_priced T S c.args.t s.ready c.requires.known))
     (λ j l. v.spare j (omega (arith, ap length e)))
