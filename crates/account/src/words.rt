@@ -17,7 +17,7 @@ pub fn first_words(heap: Global, line: &[u8]) -> Result<Vec<&[u8]>, AllocError> 
 }
 
 // Puts what each word behind the first `skipped` says behind what is kept, and tells how many these are. Where one says nothing, none is kept.
-pub fn keep<T: Drop, F: Fn(&[u8]) -> Result<T, Fault>>(
+pub(crate) fn keep<T: Drop, F: Fn(&[u8]) -> Result<T, Fault>>(
     line: &[u8],
     skipped: usize,
     read: F,
